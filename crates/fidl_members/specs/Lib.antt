@@ -2,7 +2,7 @@
 --   Scalars        the types of bools and numbers, and what stands at a place as one
 --   Entries        an entry of a table, and the entry that a type is named by
 --   Owners         whose members a column or a slot reads
---   Samples        the table of the worked facts
+--   Samples        the tables of the worked facts
 pub mod Scalars
 pub mod Entries
 pub mod Owners

@@ -7,7 +7,9 @@ use Rattle.fidl_view.specs.declared.structs.Members.{Members}
 use Rattle.fidl_view.specs.Views.{part_of, message_held, entry_held}
 use Rattle.fidl_members.specs.declared.column.Column.{Column}
 use Rattle.fidl_members.specs.declared.slot.Slot.{Slot}
+use Rattle.fidl_wire.specs.Term.{Term}
 use Rattle.fidl_members.specs.Entries.{Owner, owner}
+use Rattle.fidl_members.specs.Scalars.{type_in}
 
 -- the struct whose members these are
 abbrev pub owner_held : Members → Owner
@@ -45,3 +47,10 @@ entry_of c = entry_at c.table.now c.row.entry
 -- the same of a slot
 abbrev pub entry_of_slot : Slot → Entry
 entry_of_slot s = entry_at s.table.now s.entry
+
+-- the type of a column's members, and of a slot's
+abbrev pub column_type : Column → Term
+column_type c = type_in c.table.now c.row.entry
+
+abbrev pub slot_type : Slot → Term
+slot_type s = type_in s.table.now s.entry

@@ -1,10 +1,10 @@
 //! A member of the structs of one entry, looked up once.
-ghost use Rattle.std.specs.Prelude.{◌≡◌, ◌+◌, ◌<◌, ◌≤◌, IfSome, IfNone};
+ghost use Rattle.std.specs.Prelude.{◌≡◌, ◌+◌, ◌<◌, IfSome, IfNone};
 ghost use Rattle.fidl_wire.specs.Value.{Value};
 ghost use Rattle.fidl_table_format.specs.declared.kind.EntryKind.TheVariants as EntryKind;
 ghost use Rattle.fidl_table_format.specs.Section.{header_of, entry_at, row_at};
 ghost use Rattle.fidl_table_format.specs.Entry.{IsOf};
-ghost use Rattle.fidl_members.specs.Entries.{owner};
+ghost use Rattle.fidl_members.specs.Entries.{owner, entry_at_row, HasField, HasContent};
 
 use crate::kinds::entry_kind;
 use fidl_table_format::{EntryKind, Row};
@@ -40,8 +40,9 @@ impl<'t> Column<'t> {
         requires { entry < (header_of table.now).entries }
         ensures of { IfSome result (λ c. owner_of c ≡ owner table.now entry) }
         ensures place { IfSome result (λ c. place_in c ≡ at) }
-        ensures none { IfNone result (IsOf EntryKind.Struct (entry_at table.now entry)
-            → (entry_at table.now entry).count ≤ at) }
+        ensures typed { IfSome result (λ c. type_of_column c
+            ≡ owner table.now (entry_at_row table.now entry at)) }
+        ensures none { IfNone result (HasField table.now entry at → ⊥) }
     {
         let EntryKind::Struct = entry_kind(table, entry) else {
             return None;
@@ -72,6 +73,8 @@ impl<'t> Column<'t> {
     /// kind.
     pub fn content(&self) -> Option<u32>
         ensures value { IfSome result (λ content. content ≡ (entry_of self.now).first) }
+        ensures some { IfSome result (λ content. HasContent (entry_of self.now)) }
+        ensures none { IfNone result (HasContent (entry_of self.now) → ⊥) }
         ensures in_range { IfSome result
             (λ content. content < (header_of self.now.table.now).entries) }
     {

@@ -6,7 +6,7 @@ ghost use Rattle.fidl_table_format.specs.declared.kind.EntryKind.TheVariants as 
 ghost use Rattle.fidl_table_format.specs.Section.{header_of, entry_at};
 ghost use Rattle.fidl_table_format.specs.Entry.{IsOf};
 ghost use Rattle.fidl_members.specs.Scalars.{scalar_of, type_in};
-ghost use Rattle.fidl_members.specs.Entries.{owner};
+ghost use Rattle.fidl_members.specs.Entries.{owner, entry_at_row, HasField};
 
 use crate::column::Column;
 use crate::kinds::{entry_kind, scalar_kind};
@@ -51,13 +51,12 @@ pub struct BoxColumn<'t> {
 }
 
 impl<'t> Column<'t> {
-    ghost use Rattle.fidl_members.specs.Owners.{entry_of};
+    ghost use Rattle.fidl_members.specs.Owners.{entry_of, column_type};
 
     /// The column as one of bools or numbers of this type; none where its type is another.
     pub fn scalar<S: Scalar>(self) -> Option<ScalarColumn<'t, S>>
         ensures column { IfSome result (λ c. c.column ≡ self.entry) }
-        ensures none { IfNone result (scalar_of (type_in self.entry.table.now self.entry.row.entry)
-            ≢ Some S.kind) }
+        ensures none { IfNone result (scalar_of (column_type self.entry) ≢ Some S.kind) }
     {
         if !S::is_of(scalar_kind(self.table, self.row.entry)) {
             return None;
@@ -107,12 +106,14 @@ impl<'t, S: Scalar> ScalarColumn<'t, S> {
     ghost use Rattle.fidl_view.specs.Views.{ShowsMembersOf};
     ghost use Rattle.fidl_members.specs.Owners.{owner_of, owner_held, place_in};
 
-    /// The member at this place in the declaration of the struct of an entry, counted from 0, of this type;
-    /// none where there is no such member.
+    /// The member at this place in the declaration of the struct of an entry, counted from 0; none
+    /// past the last, of an entry of another kind, and where the member is not of this type.
     pub fn find(table: &'t Table<'t>, entry: u32, at: usize) -> Option<ScalarColumn<'t, S>>
         requires { entry < (header_of table.now).entries }
         ensures of { IfSome result (λ c. owner_of c.column ≡ owner table.now entry) }
         ensures place { IfSome result (λ c. place_in c.column ≡ at) }
+        ensures none { IfNone result (HasField table.now entry at
+            → scalar_of (type_in table.now (entry_at_row table.now entry at)) ≢ Some S.kind) }
     {
         Column::find(table, entry, at)?.scalar::<S>()
     }
@@ -133,12 +134,14 @@ impl<'t> TextColumn<'t> {
     ghost use Rattle.fidl_view.specs.Views.{ShowsMembersOf};
     ghost use Rattle.fidl_members.specs.Owners.{owner_of, owner_held, place_in};
 
-    /// The member at this place in the declaration of the struct of an entry, counted from 0, a string;
-    /// none where there is no such member.
+    /// The member at this place in the declaration of the struct of an entry, counted from 0; none
+    /// past the last, of an entry of another kind, and where the member is not a string.
     pub fn find(table: &'t Table<'t>, entry: u32, at: usize) -> Option<TextColumn<'t>>
         requires { entry < (header_of table.now).entries }
         ensures of { IfSome result (λ c. owner_of c.column ≡ owner table.now entry) }
         ensures place { IfSome result (λ c. place_in c.column ≡ at) }
+        ensures none { IfNone result (HasField table.now entry at
+            → IsOf EntryKind.String (entry_at table.now (entry_at_row table.now entry at)) → ⊥) }
     {
         Column::find(table, entry, at)?.text()
     }
@@ -161,12 +164,14 @@ impl<'t> StructColumn<'t> {
     ghost use Rattle.fidl_view.specs.Views.{message_held, ShowsMembersOf};
     ghost use Rattle.fidl_members.specs.Owners.{owner_of, owner_held, place_in, type_of_column};
 
-    /// The member at this place in the declaration of the struct of an entry, counted from 0, a struct;
-    /// none where there is no such member.
+    /// The member at this place in the declaration of the struct of an entry, counted from 0; none
+    /// past the last, of an entry of another kind, and where the member is not a struct.
     pub fn find(table: &'t Table<'t>, entry: u32, at: usize) -> Option<StructColumn<'t>>
         requires { entry < (header_of table.now).entries }
         ensures of { IfSome result (λ c. owner_of c.column ≡ owner table.now entry) }
         ensures place { IfSome result (λ c. place_in c.column ≡ at) }
+        ensures none { IfNone result (HasField table.now entry at
+            → IsOf EntryKind.Struct (entry_at table.now (entry_at_row table.now entry at)) → ⊥) }
     {
         Column::find(table, entry, at)?.members()
     }
@@ -191,12 +196,14 @@ impl<'t> BoxColumn<'t> {
     ghost use Rattle.fidl_members.specs.Owners.{owner_of, owner_held, place_in};
     ghost use Rattle.fidl_members.specs.Owners.{entry_of};
 
-    /// The member at this place in the declaration of the struct of an entry, counted from 0, a box;
-    /// none where there is no such member.
+    /// The member at this place in the declaration of the struct of an entry, counted from 0; none
+    /// past the last, of an entry of another kind, and where the member is not a box.
     pub fn find(table: &'t Table<'t>, entry: u32, at: usize) -> Option<BoxColumn<'t>>
         requires { entry < (header_of table.now).entries }
         ensures of { IfSome result (λ c. owner_of c.column ≡ owner table.now entry) }
         ensures place { IfSome result (λ c. place_in c.column ≡ at) }
+        ensures none { IfNone result (HasField table.now entry at
+            → IsOf EntryKind.Box (entry_at table.now (entry_at_row table.now entry at)) → ⊥) }
     {
         Column::find(table, entry, at)?.boxed()
     }

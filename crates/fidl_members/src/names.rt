@@ -3,7 +3,7 @@ ghost use Rattle.std.specs.Prelude.{◌≡◌, ◌≢◌, ℕ, ◌+◌, ◌<◌,
 ghost use Rattle.fidl_table_format.specs.declared.kind.EntryKind.TheVariants as EntryKind;
 ghost use Rattle.fidl_table_format.specs.Section.{header_of, entry_at, row_at};
 ghost use Rattle.fidl_table_format.specs.Entry.{IsOf};
-ghost use Rattle.fidl_members.specs.Entries.{row_name, IsRowOf, HasNoRow};
+ghost use Rattle.fidl_members.specs.Entries.{row_name, IsFirstRowOf, HasNoRow};
 
 use crate::kinds::entry_kind;
 use fidl_table_format::EntryKind;
@@ -14,6 +14,8 @@ fn row_named(table: &Table<'_>, first: u32, count: u32, name: &[u8]) -> Option<u
     requires { first + count ≤ (header_of table.now).rows }
     ensures below { IfSome result (λ at. at < count) }
     ensures named { IfSome result (λ at. row_name table.now (first + at) ≡ name.now) }
+    ensures first { IfSome result (λ at. (k : ℕ) → k < at
+        → row_name table.now (first + k) ≢ name.now) }
     ensures none { IfNone result ((k : ℕ) → k < count
         → row_name table.now (first + k) ≢ name.now) }
 {
@@ -33,7 +35,7 @@ fn row_named(table: &Table<'_>, first: u32, count: u32, name: &[u8]) -> Option<u
 pub fn field_named(table: &Table<'_>, entry: u32, name: &[u8]) -> Option<usize>
     requires { entry < (header_of table.now).entries }
     ensures of { IfSome result (λ at. IsOf EntryKind.Struct (entry_at table.now entry)) }
-    ensures named { IfSome result (λ at. IsRowOf table.now entry name.now at) }
+    ensures named { IfSome result (λ at. IsFirstRowOf table.now entry name.now at) }
     ensures none { IfNone result (IsOf EntryKind.Struct (entry_at table.now entry)
         → HasNoRow table.now entry name.now) }
 {
@@ -52,7 +54,7 @@ pub fn field_named(table: &Table<'_>, entry: u32, name: &[u8]) -> Option<usize>
 pub fn member_named(table: &Table<'_>, entry: u32, name: &[u8]) -> Option<u64>
     requires { entry < (header_of table.now).entries }
     ensures of { IfSome result (λ ordinal. IsOf EntryKind.Table (entry_at table.now entry)) }
-    ensures named { IfSome result (λ ordinal. (at : ℕ) × IsRowOf table.now entry name.now at
+    ensures named { IfSome result (λ ordinal. (at : ℕ) × IsFirstRowOf table.now entry name.now at
         × (ordinal ≡ (row_at table.now (header_of table.now)
         ((entry_at table.now entry).first + at)).key)) }
     ensures none { IfNone result (IsOf EntryKind.Table (entry_at table.now entry)

@@ -1,12 +1,12 @@
 //! A member of the tables of one entry, looked up once.
-ghost use Rattle.std.specs.Prelude.{◌≡◌, ◌<◌, Some, None, IfSome, IfNone, MatchOption};
+ghost use Rattle.std.specs.Prelude.{◌≡◌, ◌<◌, ℕ, Some, None, IfSome, IfNone, MatchOption};
 ghost use Rattle.fidl_wire.specs.Value.{Value};
 ghost use Rattle.fidl_wire.specs.Term.{find};
 ghost use Rattle.fidl_table_format.specs.declared.kind.EntryKind.TheVariants as EntryKind;
 ghost use Rattle.fidl_table_format.specs.Section.{header_of, entry_at};
 ghost use Rattle.fidl_table_format.specs.Entry.{IsOf};
 ghost use Rattle.fidl_table_format.specs.Terms.{members_of};
-ghost use Rattle.fidl_members.specs.Entries.{entry_named, owner};
+ghost use Rattle.fidl_members.specs.Entries.{entry_named, owner, HasMember};
 
 use crate::kinds::entry_kind;
 use fidl_table_format::EntryKind;
@@ -39,14 +39,17 @@ impl<'t> Slot<'t> {
         requires { entry < (header_of table.now).entries }
         ensures of { IfSome result (λ s. owner_of_slot s ≡ owner table.now entry) }
         ensures ordinal { IfSome result (λ s. ordinal_of s ≡ ordinal) }
-        ensures none { IfNone result (IsOf EntryKind.Table (entry_at table.now entry)
-            → find (members_of table.now entry) ordinal ≡ None) }
+        ensures typed { IfSome result (λ s. (m : ℕ) → HasMember table.now entry ordinal m
+            → type_of_slot s ≡ owner table.now m) }
+        ensures none { IfNone result ((m : ℕ) → HasMember table.now entry ordinal m → ⊥) }
     {
         let EntryKind::Table = entry_kind(table, entry) else {
             return None;
         };
         let mut probes = 0;
-        let row = table.member(entry, ordinal, &mut probes)?;
+        let Some(row) = table.member(entry, ordinal, &mut probes) else {
+            return None;
+        };
         Some(Slot {
             table,
             of: entry,

@@ -1,12 +1,12 @@
 //! Slots of one kind, whose members are read by one load once they are found.
-ghost use Rattle.std.specs.Prelude.{◌≡◌, ◌≢◌, ◌<◌, Some, None, IfSome, IfNone, MatchOption};
+ghost use Rattle.std.specs.Prelude.{◌≡◌, ◌≢◌, ◌<◌, ℕ, Some, None, IfSome, IfNone, MatchOption};
 ghost use Rattle.std.specs.Option.{option_copied};
 ghost use Rattle.fidl_wire.specs.Value.{Value};
 ghost use Rattle.fidl_table_format.specs.declared.kind.EntryKind.TheVariants as EntryKind;
 ghost use Rattle.fidl_table_format.specs.Section.{header_of, entry_at};
 ghost use Rattle.fidl_table_format.specs.Entry.{IsOf};
 ghost use Rattle.fidl_members.specs.Scalars.{scalar_of, type_in};
-ghost use Rattle.fidl_members.specs.Entries.{owner};
+ghost use Rattle.fidl_members.specs.Entries.{owner, HasMember};
 
 use crate::kinds::{entry_kind, scalar_kind};
 use crate::reads::scalar_in;
@@ -43,13 +43,12 @@ pub struct StructSlot<'t> {
 }
 
 impl<'t> Slot<'t> {
-    ghost use Rattle.fidl_members.specs.Owners.{entry_of_slot};
+    ghost use Rattle.fidl_members.specs.Owners.{entry_of_slot, slot_type};
 
     /// The slot as one of bools or numbers of this type; none where its type is another.
     pub fn scalar<S: Scalar>(self) -> Option<ScalarSlot<'t, S>>
         ensures slot { IfSome result (λ s. s.slot ≡ self.entry) }
-        ensures none { IfNone result (scalar_of (type_in self.entry.table.now self.entry.entry)
-            ≢ Some S.kind) }
+        ensures none { IfNone result (scalar_of (slot_type self.entry) ≢ Some S.kind) }
     {
         if !S::is_of(scalar_kind(self.table, self.entry)) {
             return None;
@@ -88,14 +87,19 @@ impl<'t, S: Scalar> ScalarSlot<'t, S> {
     ghost use Rattle.fidl_view.specs.Views.{IsShownBy};
     ghost use Rattle.fidl_members.specs.Owners.{owner_shown, owner_of_slot, ordinal_of};
 
-    /// The member at this ordinal of the tables of an entry, of this type; none where there is no such
-    /// member.
+    /// The member at this ordinal of the tables of an entry; none where the layout has no such
+    /// ordinal, of an entry of another kind, and where the member is not of this type.
     pub fn find(table: &'t Table<'t>, entry: u32, ordinal: u64) -> Option<ScalarSlot<'t, S>>
         requires { entry < (header_of table.now).entries }
         ensures of { IfSome result (λ s. owner_of_slot s.slot ≡ owner table.now entry) }
         ensures ordinal { IfSome result (λ s. ordinal_of s.slot ≡ ordinal) }
+        ensures none { IfNone result ((m : ℕ) → HasMember table.now entry ordinal m
+            → scalar_of (type_in table.now m) ≢ Some S.kind) }
     {
-        Slot::find(table, entry, ordinal)?.scalar::<S>()
+        let Some(slot) = Slot::find(table, entry, ordinal) else {
+            return None;
+        };
+        slot.scalar::<S>()
     }
 
     /// The bool or number of a table of the slot's entry and coding table; none where it is absent.
@@ -118,14 +122,19 @@ impl<'t> TextSlot<'t> {
     ghost use Rattle.fidl_view.specs.Views.{IsShownBy};
     ghost use Rattle.fidl_members.specs.Owners.{owner_shown, owner_of_slot, ordinal_of};
 
-    /// The member at this ordinal of the tables of an entry, a string; none where there is no such
-    /// member.
+    /// The member at this ordinal of the tables of an entry; none where the layout has no such
+    /// ordinal, of an entry of another kind, and where the member is not a string.
     pub fn find(table: &'t Table<'t>, entry: u32, ordinal: u64) -> Option<TextSlot<'t>>
         requires { entry < (header_of table.now).entries }
         ensures of { IfSome result (λ s. owner_of_slot s.slot ≡ owner table.now entry) }
         ensures ordinal { IfSome result (λ s. ordinal_of s.slot ≡ ordinal) }
+        ensures none { IfNone result ((m : ℕ) → HasMember table.now entry ordinal m
+            → IsOf EntryKind.String (entry_at table.now m) → ⊥) }
     {
-        Slot::find(table, entry, ordinal)?.text()
+        let Some(slot) = Slot::find(table, entry, ordinal) else {
+            return None;
+        };
+        slot.text()
     }
 
     /// The text of a table of the slot's entry and coding table, a slice of the message itself;
@@ -151,14 +160,19 @@ impl<'t> StructSlot<'t> {
     ghost use Rattle.fidl_members.specs.Owners.{owner_shown, owner_held, owner_of_slot};
     ghost use Rattle.fidl_members.specs.Owners.{ordinal_of, type_of_slot};
 
-    /// The member at this ordinal of the tables of an entry, a struct; none where there is no such
-    /// member.
+    /// The member at this ordinal of the tables of an entry; none where the layout has no such
+    /// ordinal, of an entry of another kind, and where the member is not a struct.
     pub fn find(table: &'t Table<'t>, entry: u32, ordinal: u64) -> Option<StructSlot<'t>>
         requires { entry < (header_of table.now).entries }
         ensures of { IfSome result (λ s. owner_of_slot s.slot ≡ owner table.now entry) }
         ensures ordinal { IfSome result (λ s. ordinal_of s.slot ≡ ordinal) }
+        ensures none { IfNone result ((m : ℕ) → HasMember table.now entry ordinal m
+            → IsOf EntryKind.Struct (entry_at table.now m) → ⊥) }
     {
-        Slot::find(table, entry, ordinal)?.members()
+        let Some(slot) = Slot::find(table, entry, ordinal) else {
+            return None;
+        };
+        slot.members()
     }
 
     /// The members of the struct that a table of the slot's entry and coding table holds; none where

@@ -5,7 +5,10 @@ ghost use Rattle.fidl_wire.specs.Term.{int8, int16, uint8, uint16};
 ghost use Rattle.fidl_wire.specs.Term as ty;
 ghost use Rattle.fidl_table_format.specs.declared.kind.EntryKind.TheVariants as kinds;
 ghost use Rattle.fidl_members.specs.Entries.{owner, entry_named, row_name, IsRowOf, HasNoRow};
-ghost use Rattle.fidl_members.specs.Samples.{id_and_on};
+ghost use Rattle.fidl_members.specs.Entries.{entry_at_row, HasField, HasMember, HasContent};
+ghost use Rattle.fidl_members.specs.Entries.{IsFirstRowOf};
+ghost use Rattle.fidl_table_format.specs.Samples.{an_entry};
+ghost use Rattle.fidl_members.specs.Samples.{id_and_on, id_and_id, a_table};
 ghost use Rattle.fidl_members.specs.Scalars.{number_kind, scalar_of, scalar_as, scalar_size};
 ghost use Rattle.fidl_members.specs.Scalars.{value_standing, type_in};
 
@@ -63,4 +66,26 @@ pub fn rows_by_names()
     ensures past { ¬ (IsRowOf id_and_on 0 (codes "on") 2) }
     ensures none { HasNoRow id_and_on 0 (codes "of") }
     ensures some { ¬ (HasNoRow id_and_on 0 (codes "id")) }
+{}
+
+/// The same struct's members by their places, and the first of a name.
+pub fn members_by_places()
+    ensures typed { entry_at_row id_and_on 0 1 ≡ 1 }
+    ensures second { HasField id_and_on 0 1 }
+    ensures past { ¬ (HasField id_and_on 0 2) }
+    ensures number { ¬ (HasField id_and_on 1 0) }
+    ensures first { IsFirstRowOf id_and_on 0 (codes "id") 0 }
+    ensures other { ¬ (IsFirstRowOf id_and_on 0 (codes "id") 1) }
+    ensures again { ¬ (IsFirstRowOf id_and_id 0 (codes "id") 1) }
+    ensures member { ¬ (HasMember id_and_on 0 0 1) }
+    ensures known { HasMember a_table 0 1 1 }
+    ensures later { ¬ (HasMember a_table 0 2 1) }
+{}
+
+/// A vector and a box have content, and a number has none.
+pub fn entries_with_content()
+    ensures vector { HasContent (an_entry 13 0 0 0 5 0) }
+    ensures array { HasContent (an_entry 14 0 0 3 0 0) }
+    ensures boxed { HasContent (an_entry 15 0 0 0 0 0) }
+    ensures number { ¬ (HasContent (an_entry 6 0 0 0 0 0)) }
 {}

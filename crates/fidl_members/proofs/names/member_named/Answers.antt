@@ -38,7 +38,7 @@ returns-in-Some-clause-named c =
     let begun : c.entry-parts.result.first ≡ (entry_at t c.args.entry).first = ap (λ (e : Entry). e.first) c.entry-parts.ensures.value in
     let own = c.row.ensures.value ∙ ap (λ k. row_at t (header_of t) (k + at)) begun in
     let less : at < (entry_at t c.args.entry).count = omega (arith, c.in-Some.ensures.below, counted) in
-    (at, (less, ap (λ k. row_name t (k + at)) (sym begun) ∙ c.in-Some.ensures.named), c.from.ensures ∙ ap (λ (r : Row). r.key) own)
+    (at, ((less, ap (λ k. row_name t (k + at)) (sym begun) ∙ c.in-Some.ensures.named), λ k p e. c.in-Some.ensures.first k p (ap (λ f. row_name t (f + k)) begun ∙ e)), c.from.ensures ∙ ap (λ (r : Row). r.key) own)
 
 pub returns-in-None-clause-none : goal.returns-in-None-clause-none
 returns-in-None-clause-none c is at less e =
