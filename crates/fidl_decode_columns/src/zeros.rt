@@ -1,5 +1,6 @@
 //! Zeros before, between and behind members.
-ghost use Rattle.std.specs.Prelude.{◌-◌, ◌<◌, ◌≤◌, IsTrue, OnOk, IfErr, length};
+ghost use Rattle.std.specs.Prelude.{◌-◌, ◌<◌, ◌≤◌, ◌≢◌, IsTrue, OnOk, IfErr, length};
+ghost use Rattle.std.specs.Prelude.{slice_index};
 ghost use Rattle.fidl_wire.specs.Standing.{Stands};
 ghost use Rattle.fidl_wire.specs.Encoding.{zeros};
 ghost use Rattle.fidl_decode_model.specs.Breaks.{IsPadding};
@@ -21,21 +22,24 @@ fn are_few_zeros(bytes: &[u8], from: usize, to: usize) -> bool
     u64_at(bytes, to - 8) >> (8 * (8 - (to - from))) == 0
 }
 
-/// Zeros from one place to another, by a look at each byte.
+/// Where the first byte from one place to another stands that is not zero: the end, where none is.
+/// It answers a number and no refusal, so that the calls which are inlined have no refusal to clear.
 #[cold]
 #[inline(never)]
-fn zeros_by_byte(bytes: &[u8], from: usize, to: usize) -> Result<(), DecodeFault>
+fn first_not_zero(bytes: &[u8], from: usize, to: usize) -> usize
     requires order { from ≤ to }
     requires room { to ≤ length bytes.now }
-    ensures ok { OnOk result (Stands bytes.now from (zeros (to - from))) }
-    ensures fault_is_true { IfErr result (IsPadding bytes.now from to) }
+    ensures behind { from ≤ result }
+    ensures within { result ≤ to }
+    ensures zeros { Stands bytes.now from (zeros (result - from)) }
+    ensures other { result < to → slice_index bytes.now result ≢ 0 }
 {
     for i in from..to {
         if bytes[i] != 0 {
-            return Err(DecodeFault::Padding { at: i });
+            return i;
         }
     }
-    Ok(())
+    to
 }
 
 /// Zeros from one place to another.
@@ -49,5 +53,9 @@ pub fn zeros_at(bytes: &[u8], from: usize, to: usize) -> Result<(), DecodeFault>
     if from == to || are_few_zeros(bytes, from, to) {
         return Ok(());
     }
-    zeros_by_byte(bytes, from, to)
+    let at = first_not_zero(bytes, from, to);
+    if at == to {
+        return Ok(());
+    }
+    Err(DecodeFault::Padding { at })
 }
