@@ -14,12 +14,13 @@ use Rattle.fidl_wire.specs.Encoding.{element_of, content_of, term_or}
 use Rattle.fidl_wire.specs.Message.{Encodes}
 use Rattle.fidl_decode_model.specs.Links.{Linked}
 use Rattle.fidl_decode_model.specs.State.{element_size, envelope_place}
+use Rattle.fidl_links.specs.Links.{HasNoLink}
 use Rattle.fidl_decode_model.specs.Faults.{message_of}
 use Rattle.fidl_decode_model.specs.Placed.{object_at, content_at, enclosed_at, Placed}
 
 -- no link stands at a byte, neither in eight bytes nor in four
 abbrev pub IsUnlinked : Linked → (k : ℕ) → Type 0
-IsUnlinked l k = (slice_index l.objects (k / 8) ≡ 0) × (slice_index l.records (k / 4) ≡ 0)
+IsUnlinked l k = HasNoLink l.objects l.records k
 
 -- none stands at the bytes from one place up to another
 abbrev pub AreUnlinked : Linked → (from to : ℕ) → Type 0

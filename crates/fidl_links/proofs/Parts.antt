@@ -1,5 +1,5 @@
 -- Words of lists that are alike at eight places.
-use Rattle.std.proofs.Common.{◌≡◌, ◌≢◌, ℕ, ◌+◌, ◌*◌, ◌^◌, ◌<◌, ◌≤◌, List, length, get_or, slice_range, sym, ap, ◌∙◌, arith, ◌⊎◌, inl, inr}
+use Rattle.std.proofs.Common.{◌≡◌, ◌≢◌, ℕ, ◌+◌, ◌*◌, ◌/◌, ◌%◌, ◌^◌, ◌<◌, ◌≤◌, List, length, get_or, slice_range, sym, ap, subst, ◌∙◌, arith, ◌⊎◌, inl, inr}
 use Rattle.std.specs.Int.{from_le_bytes, to_le_bytes, w64}
 use Rattle.std.proofs.lemmas.Nat.{from_le_bytes-to_le_bytes_8}
 use Rattle.std.proofs.lemmas.List.{same_lists, get_or_default}
@@ -9,6 +9,12 @@ use Rattle.fidl_links.specs.Words.{word}
 pub number_there : (bs : List ℕ) (i n : ℕ) → slice_range bs (8 * i) (8 * i + 8) ≡ to_le_bytes w64 n → n < 2 ^ 64 → word bs i ≡ n
 unfolding word
 number_there bs i n e h = ap (from_le_bytes w64) e ∙ from_le_bytes-to_le_bytes_8 n h
+
+-- the same of the word that stands at a place
+pub number_at_place : (bs : List ℕ) (at n : ℕ) → at % 8 ≡ 0 → slice_range bs at (at + 8) ≡ to_le_bytes w64 n → n < 2 ^ 64 → word bs (at / 8) ≡ n
+number_at_place bs at n eights e h =
+    let is : at ≡ 8 * (at / 8) = omega (arith, eights) in
+    number_there bs (at / 8) n (subst (λ p. slice_range bs p (p + 8) ≡ to_le_bytes w64 n) is e) h
 
 pub word_alike : (xs ys : List ℕ) (j : ℕ) → slice_range xs (8 * j) (8 * j + 8) ≡ slice_range ys (8 * j) (8 * j + 8) → word xs j ≡ word ys j
 unfolding word

@@ -18,9 +18,14 @@ pub record Written : Type 0 where
   pub objects : List ℕ
   pub records : List ℕ
 
--- no link stands over the byte at a place
+-- no link stands over the byte at a place, by the objects of all words and the records of all halves
+abbrev pub HasNoLink : (objects records : List ℕ) → (place : ℕ) → Type 0
+HasNoLink objects records place = (slice_index objects (place / 8) ≡ 0)
+    × (slice_index records (place / 4) ≡ 0)
+
+-- of a message
 abbrev pub IsFree : Written → (place : ℕ) → Type 0
-IsFree m place = (slice_index m.objects (place / 8) ≡ 0) × (slice_index m.records (place / 4) ≡ 0)
+IsFree m place = HasNoLink m.objects m.records place
 
 -- nor over any byte from one place up to another
 abbrev pub AreFree : Written → (from to : ℕ) → Type 0

@@ -24,7 +24,7 @@ pub(crate) fn put_outside(bytes: &mut [u8], envelope: usize, object: usize, firs
     let handles = handle_count_at(bytes, envelope);
     let places = (object / 8) as u64 + u64::from(count / 8) * 0x100_0000;
     let records = u64::from(handles) * 0x1_0000_0000_0000 + first as u64 * 0x80_0000_0000_0000;
-    put_word(bytes, envelope / 8, places + records);
+    put_word(bytes, envelope, places + records);
 }
 
 /// Writes the link of an envelope in which its member stands.
@@ -41,9 +41,5 @@ pub(crate) fn put_inside(bytes: &mut [u8], envelope: usize, first: usize)
     let handles = handle_count_at(bytes, envelope);
     let member = u64_at(bytes, envelope) % 0x1_0000_0000;
     let records = u64::from(handles) * 0x1_0000_0000_0000 + first as u64 * 0x80_0000_0000_0000;
-    put_word(
-        bytes,
-        envelope / 8,
-        member + records + 0x8000_0000_0000_0000,
-    );
+    put_word(bytes, envelope, member + records + 0x8000_0000_0000_0000);
 }

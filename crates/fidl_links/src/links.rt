@@ -64,7 +64,7 @@ impl<'m, 's> Links<'m, 's> {
         ensures objects { self.new.objects ≡ slice_set self.old.objects (marker / 8) object }
         ensures records { self.new.records ≡ self.old.records }
     {
-        put_word(self.bytes, marker / 8, object as u64);
+        put_word(self.bytes, marker, object as u64);
         self.room.mark_marker(marker / 8);
     }
 

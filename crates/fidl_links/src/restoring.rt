@@ -93,7 +93,7 @@ fn take_out_of(bytes: &mut [u8], room: &Room, from: usize, to: usize) -> u64
     let mut links = 0;
     for i in from..to {
         let (came, more) = came_at(bytes, room, i);
-        put_word(bytes, i, came);
+        put_word(bytes, 8 * i, came);
         links += more;
     }
     links

@@ -1,5 +1,5 @@
 //! Words of a message: eight bytes each, which are written as one number or by halves.
-ghost use Rattle.std.specs.Prelude.{◌≡◌, ℕ, ◌+◌, ◌*◌, ◌<◌, ◌≤◌, length, slice_index, slice_range};
+ghost use Rattle.std.specs.Prelude.{◌≡◌, ℕ, ◌+◌, ◌/◌, ◌%◌, ◌<◌, ◌≤◌, length, slice_index, slice_range};
 ghost use Rattle.std.specs.Int.{to_le_bytes, w32, w64};
 ghost use Rattle.fidl_links.specs.Words.{AreOctets, Put};
 
@@ -11,19 +11,19 @@ pub(crate) fn are_octets(bytes: &[u8])
     let _ = bytes;
 }
 
-/// Writes the word with this number.
+/// Writes the word that stands at a place.
 #[inline(always)]
-pub(crate) fn put_word(bytes: &mut [u8], i: usize, number: u64)
-    requires { 8 * i + 8 ≤ length bytes.old }
+pub(crate) fn put_word(bytes: &mut [u8], place: usize, number: u64)
+    requires aligned { place % 8 ≡ 0 }
+    requires room { place + 8 ≤ length bytes.old }
     ensures len { length bytes.new ≡ length bytes.old }
-    ensures here { slice_range bytes.new (8 * i) (8 * i + 8) ≡ to_le_bytes w64 number }
-    ensures before { (k : ℕ) → k < 8 * i → slice_index bytes.new k ≡ slice_index bytes.old k }
-    ensures behind { (k : ℕ) → 8 * i + 8 ≤ k → slice_index bytes.new k ≡ slice_index bytes.old k }
-    ensures put { Put bytes.old bytes.new i number }
+    ensures here { slice_range bytes.new place (place + 8) ≡ to_le_bytes w64 number }
+    ensures before { (k : ℕ) → k < place → slice_index bytes.new k ≡ slice_index bytes.old k }
+    ensures behind { (k : ℕ) → place + 8 ≤ k → slice_index bytes.new k ≡ slice_index bytes.old k }
+    ensures put { Put bytes.old bytes.new (place / 8) number }
     ensures octets { AreOctets bytes.new }
 {
-    let at = 8 * i;
-    bytes[at..at + 8].copy_from_slice(&number.to_le_bytes());
+    bytes[place..place + 8].copy_from_slice(&number.to_le_bytes());
     are_octets(bytes);
 }
 
