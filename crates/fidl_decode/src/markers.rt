@@ -9,24 +9,8 @@ ghost use Rattle.fidl_decode_model.specs.Machine.{at_of};
 
 use crate::decoder::Decoder;
 use fidl_decode_model::frame::State;
-use fidl_wire::Presence;
 
 impl<'t, 'm, 's> Decoder<'t, 'm, 's> {
-    /// What the marker of eight bytes at a place says.
-    #[inline(always)]
-    pub(crate) fn presence(&self, place: usize, state: &State<'_, '_>) -> Presence
-        requires holds { Holds self.now state.now }
-        requires free { AreFree (at_of state.now) place (place + 8) }
-        requires room { place + 8 ≤ length (came self.now) }
-        ensures { Says (came self.now) place 8 result }
-    {
-        match self.u64_at(place, state) {
-            0 => Presence::Absent,
-            u64::MAX => Presence::Present,
-            _ => Presence::Neither,
-        }
-    }
-
     /// Whether the marker at a place says that its object is there.
     #[inline(always)]
     pub(crate) fn is_present(&self, place: usize, state: &State<'_, '_>) -> bool

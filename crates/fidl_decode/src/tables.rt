@@ -15,7 +15,7 @@ ghost use Rattle.fidl_decode.specs.Ready.{CanReadPlace};
 use crate::decoder::Decoder;
 use fidl_decode_model::DecodeFault;
 use fidl_decode_model::frame::{Frame, State};
-use fidl_wire::{MAX_DEPTH, Presence};
+use fidl_wire::MAX_DEPTH;
 
 impl<'t, 'm, 's> Decoder<'t, 'm, 's> {
     /// Reads the count and the marker of a table at a place, and links its envelopes; answers how many
@@ -49,15 +49,14 @@ impl<'t, 'm, 's> Decoder<'t, 'm, 's> {
         ensures steps { state.new.steps ≡ state.old.steps }
     {
         let count = self.u64_at(place, state);
-        match self.presence(place + 8, state) {
-            Presence::Neither => return Err(DecodeFault::BadMarker { at: place + 8 }),
-            Presence::Absent => {
-                if count != 0 {
-                    return Err(DecodeFault::BadCount { at: place });
-                }
-                return Err(DecodeFault::AbsentRequired { at: place });
+        if !self.is_present(place + 8, state) {
+            if !self.is_absent(place + 8, state) {
+                return Err(DecodeFault::BadMarker { at: place + 8 });
             }
-            Presence::Present => {}
+            if count != 0 {
+                return Err(DecodeFault::BadCount { at: place });
+            }
+            return Err(DecodeFault::AbsentRequired { at: place });
         }
         let from = state.next;
         let rest = self.size - from;

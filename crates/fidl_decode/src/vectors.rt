@@ -20,7 +20,7 @@ use crate::decoder::Decoder;
 use crate::handles::is_optional;
 use fidl_decode_model::DecodeFault;
 use fidl_decode_model::frame::{Frame, Remaining, State};
-use fidl_wire::{MAX_DEPTH, Presence};
+use fidl_wire::MAX_DEPTH;
 
 impl<'t, 'm, 's> Decoder<'t, 'm, 's> {
     /// Reads the count and the marker of a vector at a place, and links its elements, which are
@@ -56,18 +56,17 @@ impl<'t, 'm, 's> Decoder<'t, 'm, 's> {
     {
         let e = self.table.entry(entry);
         let count = self.u64_at(place, state);
-        match self.presence(place + 8, state) {
-            Presence::Neither => return Err(DecodeFault::BadMarker { at: place + 8 }),
-            Presence::Absent => {
-                if count != 0 {
-                    return Err(DecodeFault::BadCount { at: place });
-                }
-                if !is_optional(&e) {
-                    return Err(DecodeFault::AbsentRequired { at: place });
-                }
-                return Ok(None);
+        if !self.is_present(place + 8, state) {
+            if !self.is_absent(place + 8, state) {
+                return Err(DecodeFault::BadMarker { at: place + 8 });
             }
-            Presence::Present => {}
+            if count != 0 {
+                return Err(DecodeFault::BadCount { at: place });
+            }
+            if !is_optional(&e) {
+                return Err(DecodeFault::AbsentRequired { at: place });
+            }
+            return Ok(None);
         }
         let element = self.table.entry(e.first);
         let from = state.next;

@@ -1,5 +1,5 @@
 use Rattle.fidl_decode.specs.Reading.{message}
-use Rattle.fidl_decode.proofs.Unchanged.{size_short, size_fits, size_room}
+use Rattle.fidl_decode.proofs.Unchanged.{clash, size_short, size_fits, size_room}
 use Rattle.fidl_decode.proofs.Fitting.{front, apart, inside, small, ended, deeper, some_8}
 use Rattle.std.proofs.Common.{◌≡◌, ℕ, ◌+◌, ◌-◌, ◌*◌, ◌<◌, refl, sym, ap, subst, ◌∙◌, arith, inl, inr, length}
 use Rattle.std.specs.Prelude.{Option, Some}
@@ -19,11 +19,11 @@ use Rattle.fidl_decode.proofs.ReadyPlaces.{first_free, last_free}
 use Rattle.fidl_decode.proofs.Linking.{marker_at}
 use Rattle.fidl_decode.proofs.decoder.Decoder.read_vector.Goals as goal
 
-pub returns-in-Absent-clause-ok : goal.returns-in-Absent-clause-ok
-returns-in-Absent-clause-ok c =
+pub returns-then-not-is_present-clause-ok : goal.returns-then-not-is_present-clause-ok
+returns-then-not-is_present-clause-ok c =
     let own = ap is_optional c.entry-e.ensures.value in
     visits_absent_vector c.args.self.now.table.now c.args.self.now.fine (message c.args.self.now) c.args.depth c.args.entry c.args.place (at_of c.args.state.now) c.requires.entry c.requires.kind c.requires.state c.requires.depth (c.args.state.now.steps - c.args.state.now.steps) (omega arith)
-    (sym own ∙ sym c.is_optional.ensures ∙ c.if-not-is_optional.false) c.in-Absent.ensures (omega (arith, c.requires.room)) (λ i. omega (arith, c.args.self.now.octets i)) (sym c.u64_at-count.ensures ∙ c.if-count-ne0.false)
+    (sym own ∙ sym c.is_optional.ensures ∙ c.if-not-is_optional.false) (c.is_absent.ensures.0 c.if-not-is_absent.false) (omega (arith, c.requires.room)) (λ i. omega (arith, c.args.self.now.octets i)) (sym c.u64_at-count.ensures ∙ c.if-count-ne0.false)
 
 pub entry-element-requires : goal.entry-element-requires
 entry-element-requires c =
@@ -33,7 +33,7 @@ entry-element-requires c =
 pub returns-then-count-rest-clause-fault_is_true : goal.returns-then-count-rest-clause-fault_is_true
 returns-then-count-rest-clause-fault_is_true c =
     let many = count_fits c.args.self.now.table.now c.args.self.now.fine (message c.args.self.now) c.args.depth c.args.entry c.args.place (at_of c.args.state.now) c.requires.entry c.requires.kind in
-    (refl, inr (c.in-Present.ensures, omega (arith, many, c.u64_at-count.ensures, (size_short c.args.self.now.sized _ _ c.if-count-rest.true))))
+    (refl, inr ((c.is_present.ensures.0 c.if-not-is_present.false), omega (arith, many, c.u64_at-count.ensures, (size_short c.args.self.now.sized _ _ c.if-count-rest.true))))
 
 pub overflow_add-result-2 : goal.overflow_add-result-2
 overflow_add-result-2 c =
@@ -62,7 +62,7 @@ returns-clause-ok c =
     let same : linked (c.args.place + 8) (inner.size * n) old ≡ record { next = old.next + c.next_multiple_of-size.result; handle = old.handle; objects = c.link_marker.new.self.objects; records = c.link_marker.new.self.records }
     = λ i. record { next = old.next + sym value i; handle = old.handle; objects = sym c.link_marker.ensures.objects i; records = sym c.link_marker.ensures.records i } in
     let opened = visits_vector t c.args.self.now.fine m c.args.depth c.args.entry c.args.place old c.requires.entry c.requires.kind c.requires.state
-    c.requires.depth (c.args.state.now.steps - c.args.state.now.steps) (omega arith) c.in-Present.ensures
+    c.requires.depth (c.args.state.now.steps - c.args.state.now.steps) (omega arith) (c.is_present.ensures.0 c.if-not-is_present.false)
     (omega (arith, c.requires.depth, c.if-depth-eq-MAX_DEPTH.false)) (omega (arith, number, bound, c.if-count-e.false))
     (omega (arith, value, (size_fits c.args.self.now.sized _ _ c.if-size-rest.false))) (omega (arith, c.requires.room)) (λ i. omega (arith, c.args.self.now.octets i)) in
     subst (λ (s : Position). Visits t m c.args.depth c.args.entry c.args.place old s (c.args.state.now.steps - c.args.state.now.steps) (frame c.entry-e.result c.entry-element.result c.u64_at-count.result c.next_multiple_of-size.result)) same
@@ -88,17 +88,17 @@ returns-clause-fine c around few =
     (omega (arith, value, (size_fits c.args.self.now.sized _ _ c.if-size-rest.false))) around few in
     subst (λ (o : Option Frame). VisitFine t m c.args.depth around c.args.entry o) found opened
 
-pub returns-in-Neither-clause-ok : goal.returns-in-Neither-clause-ok
-returns-in-Neither-clause-ok c = tt
+pub returns-then-not-is_absent-clause-ok : goal.returns-then-not-is_absent-clause-ok
+returns-then-not-is_absent-clause-ok c = tt
 
-pub returns-in-Neither-clause-fine : goal.returns-in-Neither-clause-fine
-returns-in-Neither-clause-fine c inside few = tt
+pub returns-then-not-is_absent-clause-fine : goal.returns-then-not-is_absent-clause-fine
+returns-then-not-is_absent-clause-fine c inside few = tt
 
-pub returns-in-Neither-clause-fault_is_true : goal.returns-in-Neither-clause-fault_is_true
-returns-in-Neither-clause-fault_is_true c = (refl, c.in-Neither.ensures.0, c.in-Neither.ensures.1)
+pub returns-then-not-is_absent-clause-fault_is_true : goal.returns-then-not-is_absent-clause-fault_is_true
+returns-then-not-is_absent-clause-fault_is_true c = (refl, λ z. clash (c.is_absent.ensures.1 z) c.if-not-is_absent.true, λ p. clash (c.is_present.ensures.1 p) c.if-not-is_present.true)
 
-pub returns-in-Neither-clause-steps : goal.returns-in-Neither-clause-steps
-returns-in-Neither-clause-steps c = refl
+pub returns-then-not-is_absent-clause-steps : goal.returns-then-not-is_absent-clause-steps
+returns-then-not-is_absent-clause-steps c = refl
 
 pub returns-then-count-ne0-clause-ok : goal.returns-then-count-ne0-clause-ok
 returns-then-count-ne0-clause-ok c = tt
@@ -107,7 +107,7 @@ pub returns-then-count-ne0-clause-fine : goal.returns-then-count-ne0-clause-fine
 returns-then-count-ne0-clause-fine c inside few = tt
 
 pub returns-then-count-ne0-clause-fault_is_true : goal.returns-then-count-ne0-clause-fault_is_true
-returns-then-count-ne0-clause-fault_is_true c = (refl, inl (c.in-Absent.ensures, λ none. c.if-count-ne0.true (c.u64_at-count.ensures ∙ none)))
+returns-then-count-ne0-clause-fault_is_true c = (refl, inl ((c.is_absent.ensures.0 c.if-not-is_absent.false), λ none. c.if-count-ne0.true (c.u64_at-count.ensures ∙ none)))
 
 pub returns-then-count-ne0-clause-steps : goal.returns-then-count-ne0-clause-steps
 returns-then-count-ne0-clause-steps c = refl
@@ -119,19 +119,19 @@ pub returns-then-not-is_optional-clause-fine : goal.returns-then-not-is_optional
 returns-then-not-is_optional-clause-fine c inside few = tt
 
 pub returns-then-not-is_optional-clause-fault_is_true : goal.returns-then-not-is_optional-clause-fault_is_true
-returns-then-not-is_optional-clause-fault_is_true c = (refl, sym (ap is_optional c.entry-e.ensures.value) ∙ sym c.is_optional.ensures ∙ c.if-not-is_optional.true, c.in-Absent.ensures)
+returns-then-not-is_optional-clause-fault_is_true c = (refl, sym (ap is_optional c.entry-e.ensures.value) ∙ sym c.is_optional.ensures ∙ c.if-not-is_optional.true, (c.is_absent.ensures.0 c.if-not-is_absent.false))
 
 pub returns-then-not-is_optional-clause-steps : goal.returns-then-not-is_optional-clause-steps
 returns-then-not-is_optional-clause-steps c = refl
 
-pub returns-in-Absent-clause-fine : goal.returns-in-Absent-clause-fine
-returns-in-Absent-clause-fine c inside few = tt
+pub returns-then-not-is_present-clause-fine : goal.returns-then-not-is_present-clause-fine
+returns-then-not-is_present-clause-fine c inside few = tt
 
-pub returns-in-Absent-clause-fault_is_true : goal.returns-in-Absent-clause-fault_is_true
-returns-in-Absent-clause-fault_is_true c = tt
+pub returns-then-not-is_present-clause-fault_is_true : goal.returns-then-not-is_present-clause-fault_is_true
+returns-then-not-is_present-clause-fault_is_true c = tt
 
-pub returns-in-Absent-clause-steps : goal.returns-in-Absent-clause-steps
-returns-in-Absent-clause-steps c = refl
+pub returns-then-not-is_present-clause-steps : goal.returns-then-not-is_present-clause-steps
+returns-then-not-is_present-clause-steps c = refl
 
 pub returns-then-count-rest-clause-ok : goal.returns-then-count-rest-clause-ok
 returns-then-count-rest-clause-ok c = tt
@@ -154,7 +154,7 @@ returns-then-used-rest-clause-fault_is_true c =
     let d = entry_at t c.args.entry in
     let element : c.entry-element.result ≡ entry_at t d.first = c.entry-element.ensures.value ∙ ap (λ (d : Entry). entry_at t d.first) c.entry-e.ensures.value in
     let used : c.entry-element.result.size * c.u64_at-count.result ≡ (entry_at t d.first).size * count_at c.args.self.now.bytes.value.came c.args.place = λ i. (element i).size * c.u64_at-count.ensures i in
-    (refl, inr (c.in-Present.ensures, subst (λ k. length c.args.self.now.bytes.value.came - c.args.state.now.next < k) used (size_short c.args.self.now.sized _ _ c.if-used-rest.true)))
+    (refl, inr ((c.is_present.ensures.0 c.if-not-is_present.false), subst (λ k. length c.args.self.now.bytes.value.came - c.args.state.now.next < k) used (size_short c.args.self.now.sized _ _ c.if-used-rest.true)))
 
 pub returns-then-used-rest-clause-steps : goal.returns-then-used-rest-clause-steps
 returns-then-used-rest-clause-steps c = refl
@@ -168,7 +168,7 @@ returns-then-count-e-clause-fine c inside few = tt
 pub returns-then-count-e-clause-fault_is_true : goal.returns-then-count-e-clause-fault_is_true
 returns-then-count-e-clause-fault_is_true c =
     let bound = ap (λ (d : Entry). d.bound) c.entry-e.ensures.value in
-    (refl, c.in-Present.ensures, omega (arith, bound, c.u64_at-count.ensures, c.if-count-e.true))
+    (refl, (c.is_present.ensures.0 c.if-not-is_present.false), omega (arith, bound, c.u64_at-count.ensures, c.if-count-e.true))
 
 pub returns-then-count-e-clause-steps : goal.returns-then-count-e-clause-steps
 returns-then-count-e-clause-steps c = refl
@@ -180,7 +180,7 @@ pub returns-then-depth-eq-MAX_DEPTH-clause-fine : goal.returns-then-depth-eq-MAX
 returns-then-depth-eq-MAX_DEPTH-clause-fine c inside few = tt
 
 pub returns-then-depth-eq-MAX_DEPTH-clause-fault_is_true : goal.returns-then-depth-eq-MAX_DEPTH-clause-fault_is_true
-returns-then-depth-eq-MAX_DEPTH-clause-fault_is_true c = (refl, c.in-Present.ensures, omega (arith, c.if-depth-eq-MAX_DEPTH.true))
+returns-then-depth-eq-MAX_DEPTH-clause-fault_is_true c = (refl, (c.is_present.ensures.0 c.if-not-is_present.false), omega (arith, c.if-depth-eq-MAX_DEPTH.true))
 
 pub returns-then-depth-eq-MAX_DEPTH-clause-steps : goal.returns-then-depth-eq-MAX_DEPTH-clause-steps
 returns-then-depth-eq-MAX_DEPTH-clause-steps c = refl
@@ -198,7 +198,7 @@ returns-then-size-rest-clause-fault_is_true c =
     let element : c.entry-element.result ≡ entry_at t d.first = c.entry-element.ensures.value ∙ ap (λ (d : Entry). entry_at t d.first) c.entry-e.ensures.value in
     let used : c.entry-element.result.size * c.u64_at-count.result ≡ (entry_at t d.first).size * count_at c.args.self.now.bytes.value.came c.args.place = λ i. (element i).size * c.u64_at-count.ensures i in
     let value = c.next_multiple_of-size.ensures.value ∙ ap (λ k. next_multiple_of k 8) used in
-    (refl, c.in-Present.ensures, subst (λ k. length c.args.self.now.bytes.value.came - c.args.state.now.next < k) value (size_short c.args.self.now.sized _ _ c.if-size-rest.true))
+    (refl, (c.is_present.ensures.0 c.if-not-is_present.false), subst (λ k. length c.args.self.now.bytes.value.came - c.args.state.now.next < k) value (size_short c.args.self.now.sized _ _ c.if-size-rest.true))
 
 pub returns-then-size-rest-clause-steps : goal.returns-then-size-rest-clause-steps
 returns-then-size-rest-clause-steps c = refl
@@ -218,8 +218,14 @@ u64_at-count-requires c = record { holds = c.requires.holds; room = front c.args
 pub overflow_add-place : goal.overflow_add-place
 overflow_add-place c = record { fits = small _ (length c.args.self.now.bytes.value.came) (front c.args.place 8 8 (length c.args.self.now.bytes.value.came) c.requires.room) c.args.self.now.short }
 
-pub presence-requires : goal.presence-requires
-presence-requires c = record { holds = c.requires.holds; room = apart c.args.place 8 8 (length c.args.self.now.bytes.value.came) c.requires.room; free = last_free (message c.args.self.now) (at_of c.args.state.now) c.args.place c.requires.ready }
+pub overflow_add-place-then-not-is_present : goal.overflow_add-place-then-not-is_present
+overflow_add-place-then-not-is_present c = record { fits = small _ (length c.args.self.now.bytes.value.came) (front c.args.place 8 8 (length c.args.self.now.bytes.value.came) c.requires.room) c.args.self.now.short }
+
+pub is_present-requires : goal.is_present-requires
+is_present-requires c = record { holds = c.requires.holds; room = apart c.args.place 8 8 (length c.args.self.now.bytes.value.came) c.requires.room; free = last_free (message c.args.self.now) (at_of c.args.state.now) c.args.place c.requires.ready }
+
+pub is_absent-requires : goal.is_absent-requires
+is_absent-requires c = record { holds = c.requires.holds; room = apart c.args.place 8 8 (length c.args.self.now.bytes.value.came) c.requires.room; free = last_free (message c.args.self.now) (at_of c.args.state.now) c.args.place c.requires.ready }
 
 pub overflow_add-result : goal.overflow_add-result
 overflow_add-result c = record { fits = small _ (length c.args.self.now.bytes.value.came) (front c.args.place 8 8 (length c.args.self.now.bytes.value.came) c.requires.room) c.args.self.now.short }
@@ -245,5 +251,5 @@ overflow_add-result-3 c = record { fits = deeper c.args.depth c.requires.depth }
 pub link_marker-requires : goal.link_marker-requires
 link_marker-requires c =
     let x = marker_at c.args.state.now.links (message c.args.self.now) c.requires.holds c.args.state.now.next c.args.state.now.handle c.requires.state.next c.args.self.now.short
-    c.args.place 16 (c.args.place + 8) c.requires.ready.1 (omega (arith, c.requires.ready.2)) (omega arith) (omega arith) c.in-Present.ensures in
+    c.args.place 16 (c.args.place + 8) c.requires.ready.1 (omega (arith, c.requires.ready.2)) (omega arith) (omega arith) (c.is_present.ensures.0 c.if-not-is_present.false) in
     record { aligned = x.aligned; within = x.within; present = x.present; some = x.some; few = x.few; free = x.free }
