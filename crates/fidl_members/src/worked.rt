@@ -8,6 +8,9 @@ ghost use Rattle.fidl_members.specs.Entries.{owner, entry_named, row_name, IsRow
 ghost use Rattle.fidl_members.specs.Entries.{entry_at_row, HasField, HasMember, HasContent};
 ghost use Rattle.fidl_members.specs.Entries.{IsFirstRowOf};
 ghost use Rattle.fidl_table_format.specs.Samples.{an_entry};
+ghost use Rattle.fidl_decode_model.specs.Model.{Shown};
+ghost use Rattle.fidl_view.specs.Elements.{part};
+ghost use Rattle.fidl_view.specs.Fields.{parts_of_rows};
 ghost use Rattle.fidl_members.specs.Samples.{id_and_on, id_and_id, a_table};
 ghost use Rattle.fidl_members.specs.Scalars.{number_kind, scalar_of, scalar_as, scalar_size};
 ghost use Rattle.fidl_members.specs.Scalars.{value_standing, type_in};
@@ -88,4 +91,25 @@ pub fn entries_with_content()
     ensures array { HasContent (an_entry 14 0 0 3 0 0) }
     ensures boxed { HasContent (an_entry 15 0 0 0 0 0) }
     ensures number { ¬ (HasContent (an_entry 6 0 0 0 0 0)) }
+{}
+
+/// The members of the struct, one by one: each of its row's entry, at its place, and no more.
+pub fn members_one_by_one()
+    ensures both { let d : Shown = record {
+      table = id_and_on;
+      entry = 0;
+      bytes = [];
+      handles = [];
+      steps = 0;
+      links = record { objects = []; records = [] };
+    } in parts_of_rows d 0 16 2 ≡ part d 1 16 ∷ part d 1 17 ∷ [] }
+    ensures second { let d : Shown = record {
+      table = id_and_on;
+      entry = 0;
+      bytes = [];
+      handles = [];
+      steps = 0;
+      links = record { objects = []; records = [] };
+    } in parts_of_rows d 1 16 1 ≡ part d 1 17 ∷ [] }
+    ensures none { (d : Shown) → parts_of_rows d 0 16 0 ≡ [] }
 {}

@@ -72,11 +72,11 @@ const SUITES: [Suite<'_>; 4] = [
             # A vector's elements and a box's members are read where the message has them.
             0 0200000000000000 ffffffffffffffff 0200000000000000 ffffffffffffffff ffffffffffffffff 0100000002000000 0708000000000000 0900000000000000 -> it.f0.len=2 it.f0.e0.u64=1 it.f0.e1.u64=2
             0 0200000000000000 ffffffffffffffff 0200000000000000 ffffffffffffffff ffffffffffffffff 0100000002000000 0708000000000000 0900000000000000 -> it.f0.e2.u64=none it.f0.count=2 it.f0.bytes=none
-            0 0200000000000000 ffffffffffffffff 0200000000000000 ffffffffffffffff ffffffffffffffff 0100000002000000 0708000000000000 0900000000000000 -> it.f1.bytes=0708 it.f2.f0.u64=9 it.f1.absent=false
+            0 0200000000000000 ffffffffffffffff 0200000000000000 ffffffffffffffff ffffffffffffffff 0100000002000000 0708000000000000 0900000000000000 -> it.f1.bytes=0708 it.f2.f0.u64=9 it.f1.absent=false it.n2.n0.u64=9
             0 0200000000000000 ffffffffffffffff 0200000000000000 ffffffffffffffff ffffffffffffffff 0100000002000000 0708000000000000 0900000000000000 -> it.f2.absent=false it.f2.len=none
             # Absent ones have nothing, and an empty vector is not absent.
             0 0000000000000000 ffffffffffffffff 0000000000000000 0000000000000000 0000000000000000 -> it.f0.absent=false it.f0.len=0 it.f0.e0.u64=none it.f1.absent=true it.f1.len=none it.f1.bytes=none
-            0 0000000000000000 ffffffffffffffff 0000000000000000 0000000000000000 0000000000000000 -> it.f1.count=0 it.f2.absent=true it.f2.f0.u64=none
+            0 0000000000000000 ffffffffffffffff 0000000000000000 0000000000000000 0000000000000000 -> it.f1.count=0 it.f2.absent=true it.f2.f0.u64=none it.n2.absent=true it.n2.n0.there=none
             # A vector of structs.
             9 0300000000000000 ffffffffffffffff 0100000002000000 0300000000000000 -> it.f0.e2.f0.u64=3
         ",

@@ -2,8 +2,8 @@
 //!
 //! A claim such as `it.f0.e2.u64=3` has a path, a call and what it answers. A path begins with
 //! `it`, the view of the message. `f0` is a struct's member, by its place; `e2` an element; `g2`
-//! the element that the iterator gives third; `m5` the member of a table with the ordinal 5; `v` a
-//! union's member. The calls are named below. Each answers `none` where it has nothing to give, or
+//! the element that the iterator gives third; `n2` the member of a struct that its iterator gives
+//! third; `m5` the member of a table with the ordinal 5; `v` a union's member. The calls are named below. Each answers `none` where it has nothing to give, or
 //! its path leads nowhere.
 use fidl_view::{Unknown, View};
 use fidl_wire::HandleInfo;
@@ -29,6 +29,9 @@ fn other_step<'v, 'm>(part: View<'v, 'm>, word: &str) -> Option<Option<View<'v, 
     if let Some(at) = word.strip_prefix('g') {
         return Some(given(part, at.parse().ok()?));
     }
+    if let Some(at) = word.strip_prefix('n') {
+        return Some(listed(part, at.parse().ok()?));
+    }
     match word {
         "it" => Some(Some(part)),
         "v" => match part.variant() {
@@ -46,6 +49,15 @@ fn given<'v, 'm>(part: View<'v, 'm>, calls: u64) -> Option<View<'v, 'm>> {
         let _before = elements.next();
     }
     elements.next()
+}
+
+/// What the iterator over a struct's members gives after so many calls, whatever it gave before.
+fn listed<'v, 'm>(part: View<'v, 'm>, calls: u64) -> Option<View<'v, 'm>> {
+    let mut members = part.members()?.fields();
+    for _ in 0..calls {
+        let _before = members.next();
+    }
+    members.next()
 }
 
 /// What stands at the end of a path.

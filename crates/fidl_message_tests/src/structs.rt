@@ -169,7 +169,7 @@ const SUITES: [Suite<'_>; 7] = [
         count: 8,
         cases: "
             # Members behind padding, and a struct without members.
-            0 0100000002000000 -> it.f0.u64=1 it.f1.u64=2
+            0 0100000002000000 -> it.f0.u64=1 it.f1.u64=2 it.n0.u64=1 it.n1.u64=2 it.n2.there=none it.n3.there=none it.n0.n0.there=none
             3 0000000000000000 -> it.f0.there=none it.absent=false
             # Numbers, each by its type.
             4 fe00fdfffcffffff fbffffffffffffff feff000000000000 fdffffffffffffff -> it.f0.i64=-2 it.f1.i64=-3 it.f2.i64=-4 it.f3.i64=-5 it.f4.i64=none it.f5.i64=none it.f6.i64=none it.f0.u64=none

@@ -22,3 +22,4 @@ pub mod Whole
 pub mod Growing
 pub mod Numbered
 pub mod Owned
+pub mod FieldParts

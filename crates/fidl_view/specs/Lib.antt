@@ -3,6 +3,7 @@
 --   Parts          the part of a value that each call answers
 --   Elements       the elements of a list, one by one
 --   Members        the members of a struct, a table or a union
+--   Fields         the members of a struct, one by one
 --   Numbers        the numbers that stand at a place
 --   Views          what a view and an iterator are seen as
 pub mod Parts
@@ -11,5 +12,6 @@ pub mod Elements
 pub mod Views
 pub mod Numbers
 pub mod Members
+pub mod Fields
 pub mod Within
 pub mod Trees

@@ -1,6 +1,6 @@
 -- Views as parts of a message, and what an iterator of elements has left (docs/views.md, "Shows"
 -- and "Elements").
-use Rattle.std.specs.Prelude.{◌≡◌, ◌<◌, ℕ, ◌+◌, List, slice_range, Option, Some, None}
+use Rattle.std.specs.Prelude.{◌≡◌, ◌<◌, ℕ, ◌+◌, ◌-◌, List, slice_range, Option, Some, None}
 use Rattle.std.specs.Prelude.{MatchOption}
 use Rattle.std.specs.Option.{option_map}
 use Rattle.std.specs.List.{AllByRecursion}
@@ -21,10 +21,12 @@ use Rattle.fidl_decode_model.specs.Model.{Shown}
 use Rattle.fidl_view.specs.declared.view.View.{View}
 use Rattle.fidl_view.specs.declared.elements.Elements.{Elements}
 use Rattle.fidl_view.specs.declared.structs.Members.{Members}
+use Rattle.fidl_view.specs.declared.fields.Fields.{Fields}
 use Rattle.fidl_view.specs.declared.envelope.Envelope.{Envelope}
 use Rattle.fidl_view.specs.Parts.{known_of}
 use Rattle.fidl_view.specs.Shows.{Shows, type_of}
 use Rattle.fidl_view.specs.Elements.{Part, part, parts_from, ShowEach}
+use Rattle.fidl_view.specs.Fields.{parts_of_rows}
 use Rattle.fidl_view.specs.Members.{ShowMembers, ShowMember, struct_of, field_at, fields_at}
 use Rattle.fidl_view.specs.Members.{term_at}
 
@@ -160,6 +162,15 @@ AreFieldsOf view members =
 abbrev pub ShowsMembersOf : Value → Members → Type 0
 ShowsMembersOf v members = (vs : Values) × (v ≡ fields vs)
     × ShowMembers members.decoded.now members.index members.place vs
+
+-- the members whose views are still to come
+abbrev pub fields_left : Fields → List Part
+fields_left s = parts_of_rows s.members.decoded.now (s.first + s.next) s.members.place
+    (s.count - s.next)
+
+-- the value has members, and the parts that are left show these, one by one
+abbrev pub ShowsFieldsOf : Value → Fields → Type 0
+ShowsFieldsOf v s = (vs : Values) × (v ≡ fields vs) × ShowEach (fields_left s) vs
 
 -- the decoded message of an envelope
 abbrev pub message_in : Envelope → Shown

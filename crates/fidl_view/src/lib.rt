@@ -5,6 +5,7 @@
 mod bytes;
 mod elements;
 mod envelope;
+mod fields;
 mod handle;
 mod kind;
 pub mod laws;
@@ -20,6 +21,7 @@ pub mod worked;
 
 pub use elements::Elements;
 pub use envelope::Unknown;
+pub use fields::Fields;
 pub use structs::Members;
 pub use view::View;
 pub use views::Views;

@@ -1,5 +1,5 @@
 //! What a view answers of structs and boxes.
-ghost use Rattle.std.specs.Prelude.{◌≡◌, ◌<◌, ◌≤◌, length, Some, None, IfSome, MatchOption};
+ghost use Rattle.std.specs.Prelude.{◌≡◌, ◌+◌, ◌<◌, ◌≤◌, length, Some, None, IfSome, MatchOption};
 ghost use Rattle.fidl_wire.specs.Value.{Value};
 ghost use Rattle.fidl_limits.specs.declared.limits.TheConstants.{MAX_MESSAGE_BYTES};
 ghost use Rattle.fidl_table_format.specs.declared.kind.EntryKind.TheVariants as EntryKind;
@@ -152,6 +152,7 @@ impl<'v, 'm> Members<'v, 'm> {
         requires row { row.now ≡ row_held self at }
         ensures message { (part_of result).message ≡ message_held self.entry }
         ensures entry { (part_of result).index ≡ row.now.entry }
+        ensures place { (part_of result).place ≡ place_held self.entry + row.now.key }
         ensures part { (v : Value) → ShowsMembersOf v self.entry
             → (x : Value) × (field_of v at ≡ Some x) × IsShownBy result x }
     {
