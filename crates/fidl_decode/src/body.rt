@@ -16,7 +16,7 @@ ghost use Rattle.fidl_decode.specs.Ready.{CanReadFrame};
 
 use crate::decoder::Decoder;
 use fidl_decode_model::frame::{Frame, Remaining, State};
-use fidl_table_format::{EntryKind, Header, Row, read_entry, read_header, read_row};
+use fidl_table_format::{EntryKind, Header, Row, read_entry, read_row};
 use fidl_wire::MAX_NEST;
 
 /// The envelopes of a table's value, and the rows that its entry has.
@@ -80,11 +80,10 @@ impl<'t, 'm, 's> Decoder<'t, 'm, 's> {
         ensures count { result.count ≡ count }
         ensures depth { result.depth ≡ depth }
     {
-        let table = self.table.bytes();
-        let parts = self.table.entry(entry);
+        let parts = self.entry(entry);
         TableBody {
-            table,
-            header: read_header(table),
+            table: self.coding,
+            header: self.header,
             entry,
             first: parts.first,
             known: count.min(parts.count),

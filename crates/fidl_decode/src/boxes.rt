@@ -51,7 +51,7 @@ impl<'t, 'm, 's> Decoder<'t, 'm, 's> {
         if depth as usize == MAX_DEPTH {
             return Err(DecodeFault::TooDeep { at: place });
         }
-        let content = self.table.entry(self.table.entry(entry).first);
+        let content = self.entry(self.entry(entry).first);
         let from = state.next;
         let size = (content.size as usize).next_multiple_of(8);
         if size > self.size - from {

@@ -157,7 +157,7 @@ impl<'t, 'm, 's> Decoder<'t, 'm, 's> {
         if count != 1 {
             return Ok(Some(frame));
         }
-        let e = self.table.entry(entry);
+        let e = self.entry(entry);
         let Some(kind) = EntryKind::from_number(e.kind) else {
             unreachable!()
         };

@@ -130,7 +130,7 @@ impl<'t, 'm, 's> Decoder<'t, 'm, 's> {
             ⊎ (frame_work frame
             ≤ inline_work most_nest * (state.new.next - state.old.next) + 1)) }
     {
-        let content = self.table.entry(entry);
+        let content = self.entry(entry);
         let counted = self.byte_count_at(envelope, state) as usize;
         let handles = self.handle_count_at(envelope, state) as usize;
         let flags = self.flags_at(envelope, state);

@@ -51,8 +51,8 @@ impl<'t, 'm, 's> Decoder<'t, 'm, 's> {
         if count != 1 {
             return Ok(Some(frame));
         }
-        let row = self.table.row(first);
-        let e = self.table.entry(row.entry);
+        let row = self.row(first);
+        let e = self.entry(row.entry);
         let done = row.key as usize + e.size as usize;
         if done != frame.size {
             return Ok(Some(frame));
@@ -218,7 +218,7 @@ impl<'t, 'm, 's> Decoder<'t, 'm, 's> {
         if count == 0 {
             return Ok(Some(frame));
         }
-        let e = self.table.entry(entry);
+        let e = self.entry(entry);
         let Some(kind) = EntryKind::from_number(e.kind) else {
             unreachable!()
         };

@@ -37,8 +37,8 @@ impl<'t, 'm, 's> Decoder<'t, 'm, 's> {
         // Read, so that the number of rows, and with it each row's, is known to have 32 bits.
         let _rows = self.table.rows();
         for i in 0..count {
-            let entry = self.table.row(first + i).entry;
-            let e = self.table.entry(entry);
+            let entry = self.row(first + i).entry;
+            let e = self.entry(entry);
             let Some(kind) = EntryKind::from_number(e.kind) else {
                 return false;
             };
@@ -59,7 +59,7 @@ impl<'t, 'm, 's> Decoder<'t, 'm, 's> {
     {
         match kind {
             EntryKind::Struct => {
-                let e = self.table.entry(entry);
+                let e = self.entry(entry);
                 self.are_leaves(e.first, e.count)
             }
             _ => self.is_leaf(entry, kind),
@@ -99,8 +99,8 @@ impl<'t, 'm, 's> Decoder<'t, 'm, 's> {
         let mut done = frame.done;
         while many != 0 {
             let rest = rows_from(frame, next, many, done);
-            let row = self.table.row(next);
-            let e = self.table.entry(row.entry);
+            let row = self.row(next);
+            let e = self.entry(row.entry);
             let Some(kind) = EntryKind::from_number(e.kind) else {
                 unreachable!()
             };
@@ -144,7 +144,7 @@ impl<'t, 'm, 's> Decoder<'t, 'm, 's> {
         if self.is_leaf(entry, kind) {
             return self.read_leaf(entry, kind, place, depth, state);
         }
-        let e = self.table.entry(entry);
+        let e = self.entry(entry);
         let frame = Frame {
             left: Remaining::Rows {
                 first: e.first,

@@ -34,7 +34,7 @@ impl<'t, 'm, 's> Decoder<'t, 'm, 's> {
         requires { entry < (header_of self.now.table.now).entries }
         ensures { result ≡ is_free_at self.now.table.now entry }
     {
-        let e = self.table.entry(entry);
+        let e = self.entry(entry);
         match EntryKind::from_number(e.kind) {
             Some(kind) => is_free(&e, kind),
             None => false,
@@ -49,8 +49,8 @@ impl<'t, 'm, 's> Decoder<'t, 'm, 's> {
         ensures { result ≡ is_leaf self.now.table.now (entry_at self.now.table.now entry) kind }
     {
         match kind {
-            EntryKind::Vector => self.is_free_at(self.table.entry(entry).first),
-            EntryKind::Array => self.is_free_at(self.table.entry(entry).first),
+            EntryKind::Vector => self.is_free_at(self.entry(entry).first),
+            EntryKind::Array => self.is_free_at(self.entry(entry).first),
             EntryKind::Box | EntryKind::Struct | EntryKind::Table | EntryKind::Union => false,
             _ => true,
         }
@@ -110,7 +110,7 @@ impl<'t, 'm, 's> Decoder<'t, 'm, 's> {
         ensures same { at_of state.new ≡ at_of state.old }
         ensures spends { Spends state.old.steps state.new.steps 0 probes }
     {
-        let e = self.table.entry(entry);
+        let e = self.entry(entry);
         if !e.is_strict() {
             return Ok(());
         }
@@ -156,10 +156,10 @@ impl<'t, 'm, 's> Decoder<'t, 'm, 's> {
                 }
                 Ok(())
             }
-            EntryKind::Bits => self.read_bits(&self.table.entry(entry), place, state),
+            EntryKind::Bits => self.read_bits(&self.entry(entry), place, state),
             EntryKind::Enum => self.read_enum(entry, place, state),
-            EntryKind::Handle => { self.read_handle(&self.table.entry(entry), place, depth, state) }
-            EntryKind::String => self.read_text(&self.table.entry(entry), place, depth, state),
+            EntryKind::Handle => { self.read_handle(&self.entry(entry), place, depth, state) }
+            EntryKind::String => self.read_text(&self.entry(entry), place, depth, state),
             EntryKind::Vector => self.read_numbers(entry, place, depth, state),
             // Any bytes are a number, or an array of numbers.
             _ => Ok(()),

@@ -32,8 +32,8 @@ impl<'t, 'm, 's> Decoder<'t, 'm, 's> {
         if count != 1 {
             return false;
         }
-        let row = self.table.row(first);
-        let e = self.table.entry(row.entry);
+        let row = self.row(first);
+        let e = self.entry(row.entry);
         match EntryKind::from_number(e.kind) {
             Some(EntryKind::Box) => row.key as usize + e.size as usize == size,
             _ => false,
@@ -69,7 +69,7 @@ impl<'t, 'm, 's> Decoder<'t, 'm, 's> {
         ensures fault_is_true { IfErr result (BreaksFrame self.now.table.now (message self.now)
             frame (at_of state.old)) }
     {
-        let row = self.table.row(first);
+        let row = self.row(first);
         let read = frame.base + frame.done;
         let place = frame.base + row.key as usize;
         state.steps += (place - read) as u64 + 1;
@@ -113,7 +113,7 @@ impl<'t, 'm, 's> Decoder<'t, 'm, 's> {
         ensures fault_is_true { IfErr result (BreaksFrame self.now.table.now (message self.now)
             frame (at_of state.old)) }
     {
-        let row = self.table.row(first);
+        let row = self.row(first);
         let front = frame.base + frame.done;
         let place = frame.base + row.key as usize;
         state.steps += (place - front) as u64 + 1;
@@ -191,8 +191,8 @@ impl<'t, 'm, 's> Decoder<'t, 'm, 's> {
         let mut done = frame.done;
         while many != 0 {
             let rest = rows_from(holder, next, many, done);
-            let row = self.table.row(next);
-            let e = self.table.entry(row.entry);
+            let row = self.row(next);
+            let e = self.entry(row.entry);
             let Some(kind) = EntryKind::from_number(e.kind) else {
                 unreachable!()
             };

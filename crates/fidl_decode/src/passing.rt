@@ -159,7 +159,7 @@ impl<'t, 'm, 's> Decoder<'t, 'm, 's> {
         ensures grows { state.old.next ≤ state.new.next }
         ensures steps { state.new.steps ≡ state.old.steps }
     {
-        let e = self.table.entry(entry);
+        let e = self.entry(entry);
         if !is_free(&e, kind) {
             return false;
         }
@@ -232,7 +232,7 @@ impl<'t, 'm, 's> Decoder<'t, 'm, 's> {
         ensures grows { state.old.steps ≤ state.new.steps }
         ensures pays { state.new.steps + state.old.next ≤ state.old.steps + state.new.next }
     {
-        let e = self.table.entry(entry);
+        let e = self.entry(entry);
         let Some(kind) = EntryKind::from_number(e.kind) else {
             unreachable!()
         };

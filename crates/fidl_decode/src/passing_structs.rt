@@ -41,7 +41,7 @@ impl<'t, 'm, 's> Decoder<'t, 'm, 's> {
         ensures grows { state.old.steps ≤ state.new.steps }
         ensures pays { state.new.steps + state.old.next ≤ state.old.steps + state.new.next }
     {
-        let e = self.table.entry(entry);
+        let e = self.entry(entry);
         let size = e.size as usize;
         let whole = size.next_multiple_of(8);
         let next = state.next;

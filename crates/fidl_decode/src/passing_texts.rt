@@ -64,7 +64,7 @@ impl<'t, 'm, 's> Decoder<'t, 'm, 's> {
         ensures grows { state.old.steps ≤ state.new.steps }
         ensures pays { state.new.steps + state.old.next ≤ state.old.steps + state.new.next }
     {
-        let bound = self.table.entry(entry).bound;
+        let bound = self.entry(entry).bound;
         let counted = self.u64_at(envelope, state);
         let next = state.next;
         let rest = (self.size - next) as u64;

@@ -81,7 +81,7 @@ impl<'t, 'm, 's> Decoder<'t, 'm, 's> {
             × (kind_of (entry_at self.now.table.now row.now.entry).kind ≡ Some kind)
             × (is_free kind (entry_at self.now.table.now row.now.entry) ≡ true) }
     {
-        let e = self.table.entry(row.entry);
+        let e = self.entry(row.entry);
         let Some(kind) = EntryKind::from_number(e.kind) else {
             return false;
         };
@@ -114,7 +114,7 @@ impl<'t, 'm, 's> Decoder<'t, 'm, 's> {
         if done != row.key as usize {
             return None;
         }
-        let e = self.table.entry(row.entry);
+        let e = self.entry(row.entry);
         match EntryKind::from_number(e.kind) {
             Some(EntryKind::Bool) => Some(Some(row.key)),
             _ => None,
@@ -140,7 +140,7 @@ impl<'t, 'm, 's> Decoder<'t, 'm, 's> {
         let mut done = 0;
         let mut flag = None;
         for i in first..stop {
-            let row = self.table.row(i);
+            let row = self.row(i);
             let Some(next) = self.next_flag(&row, done, flag) else {
                 return Plain {
                     rows: i - first,
@@ -151,7 +151,7 @@ impl<'t, 'm, 's> Decoder<'t, 'm, 's> {
                 };
             };
             flag = next;
-            done = row.key as usize + self.table.entry(row.entry).size as usize;
+            done = row.key as usize + self.entry(row.entry).size as usize;
         }
         Plain {
             rows: few,
@@ -172,11 +172,11 @@ impl<'t, 'm, 's> Decoder<'t, 'm, 's> {
             return self.plain_rows(first, 0);
         }
         let _rows = self.table.rows();
-        let row = self.table.row(first + (count - 1));
-        let e = self.table.entry(row.entry);
+        let row = self.row(first + (count - 1));
+        let e = self.entry(row.entry);
         match EntryKind::from_number(e.kind) {
             Some(EntryKind::Box) => {
-                let content = self.table.entry(e.first);
+                let content = self.entry(e.first);
                 self.plain_rows(content.first, content.count)
             }
             _ => self.plain_rows(first, 0),

@@ -113,7 +113,7 @@ impl<'t, 'm, 's> Decoder<'t, 'm, 's> {
         if self.pass_member(entry, envelope, depth, state) {
             return Ok(None);
         }
-        let e = self.table.entry(entry);
+        let e = self.entry(entry);
         let Some(kind) = EntryKind::from_number(e.kind) else {
             unreachable!()
         };
@@ -183,7 +183,7 @@ impl<'t, 'm, 's> Decoder<'t, 'm, 's> {
         // Read, so that the number of rows, and with it each row's, is known to have 32 bits.
         let _rows = self.table.rows();
         if ordinal <= parts.count {
-            let row = self.table.row(parts.first + (ordinal - 1));
+            let row = self.row(parts.first + (ordinal - 1));
             if row.key == ordinal {
                 return Some(row);
             }
@@ -260,7 +260,7 @@ impl<'t, 'm, 's> Decoder<'t, 'm, 's> {
         ensures fault_is_true { IfErr result (BreaksFrame self.now.table.now (message self.now)
             frame (at_of state.old)) }
     {
-        let parts = self.table.entry(entry);
+        let parts = self.entry(entry);
         let mut passed = read;
         let mut many = count;
         let mut done = frame.done;

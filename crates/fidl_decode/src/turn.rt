@@ -63,7 +63,7 @@ impl<'t, 'm, 's> Decoder<'t, 'm, 's> {
         ensures fault_is_true { IfErr result (BreaksFrame self.now.table.now (message self.now)
             frame (at_of state.old)) }
     {
-        let e = self.table.entry(entry);
+        let e = self.entry(entry);
         let plain = self.plain_rows(e.first, e.count);
         let known = self.plain_below(e.first, e.count);
         let mut done = frame.done;
@@ -223,7 +223,7 @@ impl<'t, 'm, 's> Decoder<'t, 'm, 's> {
         if count == 0 {
             return self.read_items(frame, entry, size, count, state);
         }
-        let e = self.table.entry(entry);
+        let e = self.entry(entry);
         match EntryKind::from_number(e.kind) {
             Some(EntryKind::Struct) => self.take_structs(frame, entry, size, count, state),
             Some(EntryKind::Table) => self.read_tables(frame, entry, size, count, state),

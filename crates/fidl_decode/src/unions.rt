@@ -88,7 +88,7 @@ impl<'t, 'm, 's> Decoder<'t, 'm, 's> {
         ensures spends { Spends state.old.steps state.new.steps 0 (1 + probes + (length
             (came self.now) - state.old.next)) }
     {
-        let e = self.table.entry(entry);
+        let e = self.entry(entry);
         let ordinal = self.u64_at(place, state);
         let envelope = place + 8;
         if ordinal == 0 {

@@ -54,7 +54,7 @@ impl<'t, 'm, 's> Decoder<'t, 'm, 's> {
             entry state.old.next (count_at (came self.now) place) (depth + 1))) }
         ensures steps { state.new.steps ≡ state.old.steps }
     {
-        let e = self.table.entry(entry);
+        let e = self.entry(entry);
         let count = self.u64_at(place, state);
         if !self.is_present(place + 8, state) {
             if !self.is_absent(place + 8, state) {
@@ -68,7 +68,7 @@ impl<'t, 'm, 's> Decoder<'t, 'm, 's> {
             }
             return Ok(None);
         }
-        let element = self.table.entry(e.first);
+        let element = self.entry(e.first);
         let from = state.next;
         let rest = self.size - from;
         // An element has a byte at least, so that the product of a count that is no greater is

@@ -51,7 +51,7 @@ impl<'t, 'm, 's> Decoder<'t, 'm, 's> {
         ensures spends { Spends state.old.steps state.new.steps 0 (1 + probes + (length
             (came self.now) - state.old.next)) }
     {
-        let e = self.table.entry(entry);
+        let e = self.entry(entry);
         let Some(kind) = EntryKind::from_number(e.kind) else {
             unreachable!()
         };
@@ -72,7 +72,7 @@ impl<'t, 'm, 's> Decoder<'t, 'm, 's> {
                 }))
             }
             EntryKind::Array => {
-                let size = self.table.entry(e.first).size as usize;
+                let size = self.entry(e.first).size as usize;
                 let left = Remaining::Elements {
                     entry: e.first,
                     size,
@@ -131,13 +131,13 @@ impl<'t, 'm, 's> Decoder<'t, 'm, 's> {
         }
         // Read, so that the number of rows, and with it each row's, is known to have 32 bits.
         let _rows = self.table.rows();
-        let row = self.table.row(first);
+        let row = self.row(first);
         let front = frame.base + frame.done;
         let place = frame.base + row.key as usize;
         state.steps += (place - front) as u64 + 1;
         self.zeros_at(front, place, state)?;
         let below = self.visit(row.entry, place, frame.depth, frame.in_envelope, state)?;
-        let done = row.key as usize + self.table.entry(row.entry).size as usize;
+        let done = row.key as usize + self.entry(row.entry).size as usize;
         Ok(Turn {
             below,
             rest: Some(rows_from(frame, first + 1, count - 1, done)),

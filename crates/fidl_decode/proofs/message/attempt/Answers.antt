@@ -37,6 +37,11 @@ invariant_of-result c =
 pub check-checked-requires-clause-free : goal.check-checked-requires-clause-free
 check-checked-requires-clause-free c = λ k from to. (c.new-links.ensures.objects (k / 8), c.new-links.ensures.records (k / 4))
 
+pub returns-clause-fault_is_true : goal.returns-clause-fault_is_true
+returns-clause-fault_is_true c =
+    let came : c.of.result.value.came ≡ c.args.bytes.now = ap (λ (w : Written). w.came) c.of.ensures ∙ c.new-links.ensures.came in
+    subst (λ (b : List ℕ). IsTold (declarations_of c.args.table.now) (ty.named c.args.entry) b c.args.handles.now c.in-Err.fault) came c.in-Err.ensures.fault_is_true
+
 pub returns-clause-err : goal.returns-clause-err
 returns-clause-err c =
     let t = c.args.table.now in

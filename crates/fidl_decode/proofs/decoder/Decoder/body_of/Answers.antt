@@ -1,13 +1,12 @@
-use Rattle.std.proofs.Common.{refl, ap, ◌∙◌, arith}
+use Rattle.std.proofs.Common.{refl, ap, arith}
 use Rattle.fidl_table_format.specs.declared.record.Entry.{Entry}
-use Rattle.fidl_table_format.specs.Section.{header_of}
 use Rattle.fidl_decode.proofs.decoder.Decoder.body_of.Goals as goal
 
 pub returns-clause-fine : goal.returns-clause-fine
 returns-clause-fine c = record {
-  table = c.bytes-table.ensures.value;
-  header = c.read_header.ensures ∙ ap header_of c.bytes-table.ensures.value;
-  well = c.bytes-table.ensures.well_formed;
+  table = c.args.self.now.coded;
+  header = c.args.self.now.headed;
+  well = c.entry-parts.ensures.well_formed;
   entry = c.requires.entry;
   is = c.requires.kind;
   first = ap (λ (d : Entry). d.first) c.entry-parts.ensures.value;
