@@ -24,7 +24,7 @@ use Rattle.fidl_decode_model.specs.declared.frame.Turn.{Turn}
 use Rattle.fidl_decode_model.specs.Invariants.{IsFine, is_free}
 use Rattle.fidl_decode_model.specs.Faults.{IsWithin}
 use Rattle.fidl_decode_model.specs.State.{Message, Position}
-use Rattle.fidl_decode.specs.Body.{BodyFine, IsFreeOf, rest_of, envelopes_of}
+use Rattle.fidl_decode.specs.Body.{BodyFine, IsFreeOf, rest_of, envelopes_of, envelopes_behind}
 use Rattle.fidl_decode_model.specs.Machine.{ReadsIf, StateFine, FrameFine, Turns, Visits, Opens, most_nest}
 use Rattle.fidl_decode.proofs.EnvelopeTurns.{envelope_absent, envelope_opened}
 use Rattle.fidl_decode_model.proofs.Enclosed.{contained_some}
@@ -85,6 +85,11 @@ body_found t b bf read more row here key =
     let there : row ≡ row_at t (header_of t) (d.first + read) = here ∙ ap (λ u. row_at u (header_of u) (b.first + read)) bf.table ∙ ap (λ n. row_at t (header_of t) (n + read)) bf.first in
     let known = bf.known in
     if_some t bf.well b.entry bf.entry uses d refl (suc read) (Some row) (read, omega (arith, more, known), there, key ∙ add-one read)
+
+-- so many are read of all envelopes
+pub body_behind : (b : TableBody) → (entry base count depth read : ℕ) → b.entry ≡ entry → b.base ≡ base → b.count ≡ count → b.depth ≡ depth → rest_of b read ≡ envelopes_behind entry base count depth read
+body_behind b entry base count depth read e p n d =
+    λ i. record { left = Envelopes (e i) read (n i - read); base = p i; done = 8 * read; size = 8 * n i; nest = most_nest; depth = d i; in_envelope = 0 }
 
 -- none is read of all envelopes
 pub body_start : (b : TableBody) → (entry base count depth : ℕ) → b.entry ≡ entry → b.base ≡ base → b.count ≡ count → b.depth ≡ depth → envelopes_of entry base count depth ≡ rest_of b 0

@@ -26,18 +26,22 @@ pub record BodyFine (t : List ℕ) (b : TableBody) : Type 0 where
   pub known : b.known ≤ (entry_at t b.entry).count
   pub few : b.known ≤ b.count
 
--- the frame of all envelopes but so many, which are read
-abbrev pub rest_of : TableBody → (read : ℕ) → Frame
-rest_of b read =
+-- the frame of so many envelopes of a value of an entry, of which these are read
+abbrev pub envelopes_behind : (entry base count depth read : ℕ) → Frame
+envelopes_behind entry base count depth read =
     record {
-      left = Envelopes b.entry read (b.count - read);
-      base = b.base;
+      left = Envelopes entry read (count - read);
+      base = base;
       done = 8 * read;
-      size = 8 * b.count;
+      size = 8 * count;
       nest = most_nest;
-      depth = b.depth;
+      depth = depth;
       in_envelope = 0;
     }
+
+-- the same of noted envelopes
+abbrev pub rest_of : TableBody → (read : ℕ) → Frame
+rest_of b read = envelopes_behind b.entry b.base b.count b.depth read
 
 -- the frame of so many envelopes of a value of an entry, of which none is read
 abbrev pub envelopes_of : (entry base count depth : ℕ) → Frame

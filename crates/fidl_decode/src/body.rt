@@ -9,15 +9,14 @@ ghost use Rattle.fidl_table_format.specs.Kind.{kind_of};
 ghost use Rattle.fidl_table_format.specs.Section.{header_of, entry_at, row_at};
 ghost use Rattle.fidl_table_format.specs.Terms.{members_of};
 ghost use Rattle.fidl_decode.specs.Body.{BodyFine, IsPassing, rest_of};
-ghost use Rattle.fidl_decode_model.specs.Steps.{Spends};
+ghost use Rattle.fidl_decode.specs.Body.{envelopes_of, envelopes_behind};
 ghost use Rattle.fidl_decode_model.specs.Machine.{StateFine, FrameFine, Turns, at_of};
 ghost use Rattle.fidl_decode.specs.Reading.{came, message, Holds};
 ghost use Rattle.fidl_decode.specs.Ready.{CanReadFrame};
 
 use crate::decoder::Decoder;
-use fidl_decode_model::frame::{Frame, Remaining, State};
+use fidl_decode_model::frame::State;
 use fidl_table_format::{EntryKind, Header, Row, read_entry, read_row};
-use fidl_wire::MAX_NEST;
 
 /// The envelopes of a table's value, and the rows that its entry has.
 #[derive(Clone, Copy, Drop)]
@@ -282,8 +281,8 @@ impl<'t, 'm, 's> Decoder<'t, 'm, 's> {
     }
 
     /// Passes over the first envelopes of a table's value, and answers how many are read then.
-    #[inline(never)]
-    pub(crate) fn pass_front(&self, body: &TableBody<'_>, state: &mut State<'_, '_>) -> u32
+    #[inline(always)]
+    fn pass_body(&self, body: &TableBody<'_>, state: &mut State<'_, '_>) -> u32
         requires body { BodyFine self.now.table.now body.now }
         requires frame { FrameFine self.now.table.now (came self.now) (rest_of body.now 0) }
         requires holds { Holds self.now state.old }
@@ -314,44 +313,39 @@ impl<'t, 'm, 's> Decoder<'t, 'm, 's> {
         from
     }
 
-    /// What is left of a table's value, of which so many envelopes are read.
-    #[inline(always)]
-    pub(crate) fn left_of(
+    /// Passes over the first of so many envelopes of a value of a table entry, from a place on, and
+    /// answers how many are read then.
+    #[inline(never)]
+    pub(crate) fn pass_front(
         &self,
-        body: &TableBody<'_>,
-        read: u32,
+        entry: u32,
+        base: usize,
+        count: u32,
+        depth: u8,
         state: &mut State<'_, '_>,
-    ) -> Option<Frame>
-        requires body { BodyFine self.now.table.now body.now }
-        requires order { read ≤ body.now.count }
-        requires frame { FrameFine self.now.table.now (came self.now) (rest_of body.now read) }
+    ) -> u32
+        requires entry { entry < (header_of self.now.table.now).entries }
+        requires kind { kind_of (entry_at self.now.table.now entry).kind ≡ Some kinds.Table }
+        requires frame { FrameFine self.now.table.now (came self.now)
+            (envelopes_of entry base count depth) }
         requires holds { Holds self.now state.old }
         requires state { StateFine (message self.now) (at_of state.old) }
-        requires budget { state.old.steps < 2 ^ 42 }
+        requires ready { CanReadFrame self.now state.old (envelopes_of entry base count depth) }
+        requires budget { state.old.steps < 2 ^ 41 }
         ensures holds { Holds self.now state.new }
-        ensures turns { Turns self.now.table.now
-            (message self.now) (rest_of body.now read)
-            (at_of state.old) (at_of state.new) (state.new.steps - state.old.steps)
-            (record { below = None; rest = result }) }
-        ensures next { state.new.next ≡ state.old.next }
-        ensures spends { Spends state.old.steps state.new.steps 0 1 }
+        ensures turns { Turns self.now.table.now (message self.now)
+            (envelopes_of entry base count depth) (at_of state.old) (at_of state.new)
+            (state.new.steps - state.old.steps)
+            (record {
+              below = None;
+              rest = Some (envelopes_behind entry base count depth result);
+            }) }
+        ensures few { result ≤ count }
+        ensures grows { state.old.steps ≤ state.new.steps }
+        ensures pays { state.new.steps + state.old.next
+            ≤ state.old.steps + result + state.new.next }
     {
-        if read == body.count {
-            state.steps += 1;
-            return None;
-        }
-        Some(Frame {
-            left: Remaining::Envelopes {
-                entry: body.entry,
-                read,
-                count: body.count - read,
-            },
-            base: body.base,
-            done: 8 * read as usize,
-            size: 8 * body.count as usize,
-            nest: MAX_NEST as u8 + 1,
-            depth: body.depth,
-            in_envelope: 0,
-        })
+        let body = self.body_of(entry, base, count, depth);
+        self.pass_body(&body, state)
     }
 }

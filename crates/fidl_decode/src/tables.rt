@@ -14,8 +14,8 @@ ghost use Rattle.fidl_decode.specs.Ready.{CanReadPlace};
 
 use crate::decoder::Decoder;
 use fidl_decode_model::DecodeFault;
-use fidl_decode_model::frame::{Frame, State};
-use fidl_wire::MAX_DEPTH;
+use fidl_decode_model::frame::{Frame, Remaining, State};
+use fidl_wire::{MAX_DEPTH, MAX_NEST};
 
 impl<'t, 'm, 's> Decoder<'t, 'm, 's> {
     /// Reads the count and the marker of a table at a place, and links its envelopes; answers how many
@@ -101,8 +101,23 @@ impl<'t, 'm, 's> Decoder<'t, 'm, 's> {
     {
         let from = state.next;
         let count = self.open_table(entry, place, depth, state)?;
-        let body = self.body_of(entry, from, count, depth + 1);
-        let read = self.pass_front(&body, state);
-        Ok(self.left_of(&body, read, state))
+        let read = self.pass_front(entry, from, count, depth + 1, state);
+        if read == count {
+            state.steps += 1;
+            return Ok(None);
+        }
+        Ok(Some(Frame {
+            left: Remaining::Envelopes {
+                entry,
+                read,
+                count: count - read,
+            },
+            base: from,
+            done: 8 * read as usize,
+            size: 8 * count as usize,
+            nest: MAX_NEST as u8 + 1,
+            depth: depth + 1,
+            in_envelope: 0,
+        }))
     }
 }

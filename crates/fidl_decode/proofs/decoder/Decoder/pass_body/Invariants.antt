@@ -4,7 +4,7 @@ use Rattle.std.specs.Prelude.{Some}
 use Rattle.fidl_decode_model.specs.Machine.{at_of, Turns}
 use Rattle.fidl_decode.specs.Body.{rest_of}
 use Rattle.fidl_decode_columns.proofs.Leaves.{left_over}
-use Rattle.fidl_decode.proofs.decoder.Decoder.pass_front.Given as goal
+use Rattle.fidl_decode.proofs.decoder.Decoder.pass_body.Given as goal
 
 -- what is read so far is a turn, whose steps are those that are counted, and one for each envelope
 abbrev pub invariant-loop-from : goal.invariant-loop-from
