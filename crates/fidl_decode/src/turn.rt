@@ -24,6 +24,10 @@ use fidl_decode_model::DecodeFault;
 use fidl_decode_model::frame::{Frame, Remaining, State, Turn};
 use fidl_table_format::EntryKind;
 
+/// So many structs of numbers are read one after another, since to check them member by member costs
+/// more before the first of them.
+const FEW_STRUCTS: u32 = 2;
+
 /// Whether all of a frame is read, up to its end: nothing is left behind what is below.
 fn is_over(frame: &Frame) -> bool
     ensures { IsTrue result ↔ IsOver frame.now }
@@ -186,7 +190,7 @@ impl<'t, 'm, 's> Decoder<'t, 'm, 's> {
         ensures fault_is_true { IfErr result (BreaksFrame self.now.table.now (message self.now)
             frame (at_of state.old)) }
     {
-        if self.check_columns(frame, entry, size, count, state)? {
+        if count > FEW_STRUCTS && self.check_columns(frame, entry, size, count, state)? {
             return Ok(Turn {
                 below: None,
                 rest: None,
