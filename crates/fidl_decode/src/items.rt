@@ -1,6 +1,6 @@
 //! The elements of an array or vector, each read in place with what it leads to.
 ghost use Rattle.std.specs.Prelude.{◌≡◌, ◌+◌, ◌-◌, ◌^◌, ◌<◌, ◌≤◌, OnOk, IfOk, IfErr, Some};
-ghost use Rattle.std.specs.Prelude.{None, length};
+ghost use Rattle.std.specs.Prelude.{IsTrue, None, length};
 ghost use Rattle.fidl_limits.specs.declared.limits.TheConstants.{MAX_DEPTH};
 ghost use Rattle.fidl_wire.specs.Term as ty;
 ghost use Rattle.fidl_wire.specs.Term.{resolve};
@@ -59,73 +59,50 @@ impl<'t, 'm, 's> Decoder<'t, 'm, 's> {
         self.read_leaves(below, state)
     }
 
-    /// Reads elements of an array or vector in place, up to one of which something is left: that is
-    /// to be read next.
-    #[inline(never)]
-    pub(crate) fn read_items(
+    /// Reads an element at a place, as `read_item` does. In a loop over tables alone, no other value is
+    /// thought of.
+    #[inline(always)]
+    fn read_element<const TABLES: bool>(
         &self,
-        frame: Frame,
         entry: u32,
-        size: usize,
-        count: u32,
+        place: usize,
+        depth: u8,
+        in_envelope: u8,
         state: &mut State<'_, '_>,
-    ) -> Result<Turn, DecodeFault>
-        requires left { frame.left ≡ left.Elements entry size count }
-        requires frame { FrameFine self.now.table.now (came self.now) frame }
+    ) -> Result<Option<Frame>, DecodeFault>
+        requires entry { entry < (header_of self.now.table.now).entries }
+        requires kind { IsTrue TABLES
+            → kind_of (entry_at self.now.table.now entry).kind ≡ Some kinds.Table }
+        requires room { place + (entry_at self.now.table.now entry).size ≤ length (came self.now) }
         requires holds { Holds self.now state.old }
         requires state { StateFine (message self.now) (at_of state.old) }
-        requires ready { CanReadFrame self.now state.old frame }
-        requires budget { state.old.steps + turn_work (came self.now) state.old.next frame < 2 ^ 40 }
+        requires ready { CanReadValue self.now state.old entry place }
+        requires depth { depth ≤ MAX_DEPTH }
+        requires in_envelope { IsInside in_envelope (entry_at self.now.table.now entry).size }
+        requires budget { state.old.steps + value_work (came self.now) state.old.next
+            (entry_at self.now.table.now entry) < 2 ^ 40 }
         ensures holds { Holds self.now state.new }
-        ensures ok { IfOk result (λ turn. Turns self.now.table.now (message self.now) frame
-            (at_of state.old) (at_of state.new) (state.new.steps - state.old.steps) turn) }
-        ensures rises { OnOk result (state.old.steps < state.new.steps) }
-        ensures cost { state.new.steps ≤ state.old.steps + turn_work (came self.now) state.old.next
-            frame }
-        ensures fault_is_true { IfErr result (BreaksFrame self.now.table.now (message self.now)
-            frame (at_of state.old)) }
+        ensures ok { IfOk result (λ found. Visits self.now.table.now (message self.now) depth entry
+            place (at_of state.old) (at_of state.new) (state.new.steps - state.old.steps) found) }
+        ensures fine { IfOk result (VisitFine self.now.table.now (message self.now) depth
+            in_envelope entry) }
+        ensures grows { OnOk result (state.old.steps ≤ state.new.steps) }
+        ensures cost { state.new.steps ≤ state.old.steps + value_work (came self.now)
+            state.old.next (entry_at self.now.table.now entry) }
+        ensures fault_is_true { IfErr result (Breaks (declarations_of self.now.table.now)
+            (message self.now) depth (resolve (declarations_of self.now.table.now).terms
+            (ty.named entry)) place (at_of state.old)) }
     {
-        // A copy, so that writing a link is known to leave it.
-        let own = frame;
-        let mut done = own.done;
-        for i in 0..count {
-            let place = own.base + done;
-            state.steps += 1;
-            let found = self.read_item(entry, place, own.depth, own.in_envelope, state)?;
-            done += size;
-            if let Some(inner) = found {
-                return Ok(Turn {
-                    below: Some(inner),
-                    rest: Some(Frame {
-                        left: Remaining::Elements {
-                            entry,
-                            size,
-                            count: count - (i + 1),
-                        },
-                        base: own.base,
-                        done,
-                        size: own.size,
-                        nest: own.nest,
-                        depth: own.depth,
-                        in_envelope: own.in_envelope,
-                    }),
-                });
-            }
+        if TABLES {
+            return self.read_table(entry, place, depth, state);
         }
-        let behind = own.base + done;
-        let stop = own.base + own.size;
-        state.steps += (stop - behind) as u64 + 1;
-        self.zeros_at(behind, stop, state)?;
-        Ok(Turn {
-            below: None,
-            rest: None,
-        })
+        self.read_item(entry, place, depth, in_envelope, state)
     }
 
-    /// Reads tables that are elements of a vector in place, as `read_items` does: a loop of their own,
-    /// in which no other value is thought of.
+    /// Reads elements of an array or vector in place, up to one of which something is left: that is
+    /// to be read next. Vectors of tables have a loop of their own.
     #[inline(never)]
-    pub(crate) fn read_tables(
+    pub(crate) fn read_items<const TABLES: bool>(
         &self,
         frame: Frame,
         entry: u32,
@@ -134,7 +111,8 @@ impl<'t, 'm, 's> Decoder<'t, 'm, 's> {
         state: &mut State<'_, '_>,
     ) -> Result<Turn, DecodeFault>
         requires left { frame.left ≡ left.Elements entry size count }
-        requires kind { kind_of (entry_at self.now.table.now entry).kind ≡ Some kinds.Table }
+        requires kind { IsTrue TABLES
+            → kind_of (entry_at self.now.table.now entry).kind ≡ Some kinds.Table }
         requires frame { FrameFine self.now.table.now (came self.now) frame }
         requires holds { Holds self.now state.old }
         requires state { StateFine (message self.now) (at_of state.old) }
@@ -155,7 +133,13 @@ impl<'t, 'm, 's> Decoder<'t, 'm, 's> {
         for i in 0..count {
             let place = own.base + done;
             state.steps += 1;
-            let found = self.read_table(entry, place, own.depth, state)?;
+            let found = self.read_element::<TABLES>(
+                entry,
+                place,
+                own.depth,
+                own.in_envelope,
+                state,
+            )?;
             done += size;
             if let Some(inner) = found {
                 return Ok(Turn {

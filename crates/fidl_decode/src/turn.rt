@@ -225,13 +225,13 @@ impl<'t, 'm, 's> Decoder<'t, 'm, 's> {
             frame (at_of state.old)) }
     {
         if count == 0 {
-            return self.read_items(frame, entry, size, count, state);
+            return self.read_items::<false>(frame, entry, size, count, state);
         }
         let e = self.entry(entry);
         match EntryKind::from_number(e.kind) {
             Some(EntryKind::Struct) => self.take_structs(frame, entry, size, count, state),
-            Some(EntryKind::Table) => self.read_tables(frame, entry, size, count, state),
-            _ => self.read_items(frame, entry, size, count, state),
+            Some(EntryKind::Table) => { self.read_items::<true>(frame, entry, size, count, state) }
+            _ => self.read_items::<false>(frame, entry, size, count, state),
         }
     }
 

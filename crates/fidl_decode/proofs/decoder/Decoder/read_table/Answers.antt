@@ -1,12 +1,11 @@
 use Rattle.fidl_decode.specs.Reading.{message}
-use Rattle.fidl_decode.proofs.Fitting.{le_more, eq_le, spends_any, not_fewer}
+use Rattle.fidl_decode.proofs.Fitting.{le_more, eq_le, spends_any}
 use Rattle.fidl_decode.proofs.Unchanged.{no_ok}
-use Rattle.std.proofs.Common.{◌+◌, ◌-◌, subst, arith}
+use Rattle.std.proofs.Common.{◌+◌, ◌-◌, arith}
 use Rattle.std.specs.Prelude.{Some, None, refl}
 use Rattle.fidl_decode.proofs.EnvelopeTurns.{envelopes_over}
-use Rattle.fidl_decode_model.specs.declared.frame.Frame.{Frame}
 use Rattle.fidl_decode.specs.Body.{envelopes_of, envelopes_behind}
-use Rattle.fidl_decode_model.specs.Machine.{Visits, VisitFine, at_of, height}
+use Rattle.fidl_decode_model.specs.Machine.{at_of, height}
 use Rattle.fidl_decode_columns.proofs.Leaves.{left_over, turns_then}
 use Rattle.fidl_decode_model.proofs.Turning.{fine_from, passed_on}
 use Rattle.fidl_decode.proofs.BodyTurns.{visits_on}

@@ -1,0 +1,44 @@
+use Rattle.fidl_decode.specs.Reading.{message}
+use lib.Dec.{eqb-suc-zero}
+use Rattle.std.proofs.Common.{◌≡◌, ℕ, zero, suc, ◌+◌, ◌≤◌, refl, sym, ap, subst, arith}
+use Rattle.std.specs.Prelude.{IsTrue, not, eqb, length}
+use Rattle.std.proofs.lemmas.Result.{IfErr-weaker}
+use Rattle.fidl_table_format.specs.declared.kind.EntryKind.TheVariants.{Table}
+use Rattle.fidl_decode_model.specs.Machine.{at_of}
+use Rattle.fidl_decode_model.proofs.Visiting.{size_as, leaf_breaks}
+use Rattle.fidl_decode_columns.proofs.Wholly.{leaf_cost}
+use Rattle.fidl_decode.proofs.Fitting.{le_one}
+use Rattle.fidl_decode.proofs.ReadyPlaces.{place_of}
+use Rattle.fidl_decode.proofs.decoder.Decoder.read_element.Goals as goal
+
+-- a parameter that is not false is true
+is_set : (flag : ℕ) → (flag ≡ 0 → ⊥) → IsTrue (not (eqb flag 0))
+is_set zero some = absurd (some refl)
+is_set (suc n) some = ap not (eqb-suc-zero n)
+
+pub read_table-requires-clause-room : goal.read_table-requires-clause-room
+read_table-requires-clause-room g c = subst (λ n. c.args.place + n ≤ length c.args.self.now.bytes.value.came)
+    (sym (size_as c.args.self.now.table.now c.args.self.now.fine c.args.entry Table c.requires.entry (c.requires.kind (is_set g.row.TABLES c.if-this-ne0.true)))) c.requires.room
+
+pub read_table-requires-clause-kind : goal.read_table-requires-clause-kind
+read_table-requires-clause-kind g c = c.requires.kind (is_set g.row.TABLES c.if-this-ne0.true)
+
+pub read_table-requires-clause-ready : goal.read_table-requires-clause-ready
+read_table-requires-clause-ready g c = place_of c.args.self.now.table.now c.args.self.now.fine (message c.args.self.now) (at_of c.args.state.now) c.args.entry c.args.place Table c.requires.entry (c.requires.kind (is_set g.row.TABLES c.if-this-ne0.true)) c.requires.ready
+
+pub returns-then-this-ne0-clause-fine : goal.returns-then-this-ne0-clause-fine
+returns-then-this-ne0-clause-fine g c = c.read_table.ensures.fine c.args.in_envelope (le_one c.args.in_envelope _ c.requires.in_envelope)
+
+pub returns-then-this-ne0-clause-fault_is_true : goal.returns-then-this-ne0-clause-fault_is_true
+returns-then-this-ne0-clause-fault_is_true g c =
+    IfErr-weaker c.read_table.result _ _ (λ fault b. leaf_breaks c.args.self.now.table.now c.args.self.now.fine (message c.args.self.now) c.args.depth
+    c.args.entry c.args.place (at_of c.args.state.now) c.requires.entry c.requires.state c.requires.depth Table (c.requires.kind (is_set g.row.TABLES c.if-this-ne0.true)) fault b)
+    c.read_table.ensures.fault_is_true
+
+pub read_table-requires-clause-budget : goal.read_table-requires-clause-budget
+read_table-requires-clause-budget g c = omega (arith, c.requires.budget)
+
+pub returns-then-this-ne0-clause-cost : goal.returns-then-this-ne0-clause-cost
+returns-then-this-ne0-clause-cost g c =
+    let within = leaf_cost c.args.self.now.table.now c.args.self.now.fine c.args.self.now.bytes.value.came c.args.state.now.next c.args.entry c.requires.entry in
+    omega (arith, within, c.read_table.ensures.spends.most)
