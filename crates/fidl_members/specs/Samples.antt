@@ -16,7 +16,7 @@ two_rows kind first second names =
     ++ named_row first 1 0 2 ++ named_row second 1 2 2 ++ names
 
 -- a struct of two members, `id` and `on`, one of two with the same name, and a table of two members
--- with the ordinals 1 and 3
+-- or a union with the ordinals 1 and 3
 abbrev pub id_and_on : List ℕ
 id_and_on = two_rows 16 0 1 (codes "idon")
 
@@ -25,3 +25,6 @@ id_and_id = two_rows 16 0 1 (codes "idid")
 
 abbrev pub a_table : List ℕ
 a_table = two_rows 17 1 3 (codes "idon")
+
+abbrev pub a_union : List ℕ
+a_union = two_rows 18 1 3 (codes "idon")

@@ -11,7 +11,7 @@ ghost use Rattle.fidl_table_format.specs.Samples.{an_entry};
 ghost use Rattle.fidl_decode_model.specs.Model.{Shown};
 ghost use Rattle.fidl_view.specs.Elements.{part};
 ghost use Rattle.fidl_view.specs.Fields.{parts_of_rows};
-ghost use Rattle.fidl_members.specs.Samples.{id_and_on, id_and_id, a_table};
+ghost use Rattle.fidl_members.specs.Samples.{id_and_on, id_and_id, a_table, a_union};
 ghost use Rattle.fidl_members.specs.Scalars.{number_kind, scalar_of, scalar_as, scalar_size};
 ghost use Rattle.fidl_members.specs.Scalars.{value_standing, type_in};
 
@@ -77,20 +77,25 @@ pub fn members_by_places()
     ensures second { HasField id_and_on 0 1 }
     ensures past { ¬ (HasField id_and_on 0 2) }
     ensures number { ¬ (HasField id_and_on 1 0) }
+    ensures table { ¬ (HasField a_table 0 0) }
     ensures first { IsFirstRowOf id_and_on 0 (codes "id") 0 }
     ensures other { ¬ (IsFirstRowOf id_and_on 0 (codes "id") 1) }
     ensures again { ¬ (IsFirstRowOf id_and_id 0 (codes "id") 1) }
+    ensures unnamed { ¬ (IsFirstRowOf id_and_on 0 (codes "of") 0) }
     ensures member { ¬ (HasMember id_and_on 0 0 1) }
     ensures known { HasMember a_table 0 1 1 }
     ensures later { ¬ (HasMember a_table 0 2 1) }
+    ensures union { ¬ (HasMember a_union 0 1 1) }
 {}
 
-/// A vector and a box have content, and a number has none.
+/// A vector, an array and a box have content. A number, a text and a struct have none.
 pub fn entries_with_content()
     ensures vector { HasContent (an_entry 13 0 0 0 5 0) }
     ensures array { HasContent (an_entry 14 0 0 3 0 0) }
     ensures boxed { HasContent (an_entry 15 0 0 0 0 0) }
     ensures number { ¬ (HasContent (an_entry 6 0 0 0 0 0)) }
+    ensures text { ¬ (HasContent (an_entry 12 0 0 0 5 0)) }
+    ensures members { ¬ (HasContent (an_entry 16 0 0 2 0 0)) }
 {}
 
 /// The members of the struct, one by one: each of its row's entry, at its place, and no more.
