@@ -65,9 +65,9 @@ impl<'t, 'm, 's> Decoder<'t, 'm, 's> {
         };
         Ok(Some(Frame {
             left,
-            base: from,
+            base: from as u32,
             done: 0,
-            size,
+            size: size as u32,
             nest: content.nest,
             depth: depth + 1,
             in_envelope: 0,

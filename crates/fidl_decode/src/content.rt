@@ -43,13 +43,15 @@ impl<'t, 'm, 's> Decoder<'t, 'm, 's> {
         ensures fault_is_true { IfErr result (BreaksFrame self.now.table.now (message self.now)
             frame (at_of state.old)) }
     {
-        let at = frame.base + frame.done;
+        let at = frame.base as usize + frame.done as usize;
         if count == 0 {
-            let stop = frame.base + frame.size;
+            let stop = frame.base as usize + frame.size as usize;
             state.steps += (stop - at) as u64 + 1;
             self.zeros_at(at, stop, state)?;
-            if state.next != until.next || state.handle != until.handle {
-                return Err(DecodeFault::WrongCounts { at: until.envelope });
+            if state.next != until.next as usize || state.handle != until.handle as usize {
+                return Err(DecodeFault::WrongCounts {
+                    at: until.envelope as usize,
+                });
             }
             return Ok(Turn {
                 below: None,
@@ -60,14 +62,14 @@ impl<'t, 'm, 's> Decoder<'t, 'm, 's> {
         let below = self.visit(entry, at, frame.depth, frame.in_envelope, state)?;
         let left = Remaining::Content {
             entry,
-            size,
+            size: size as u32,
             count: count - 1,
             until,
         };
         let rest = Frame {
             left,
             base: frame.base,
-            done: frame.done + size,
+            done: frame.done + size as u32,
             size: frame.size,
             nest: frame.nest,
             depth: frame.depth,
@@ -110,16 +112,18 @@ impl<'t, 'm, 's> Decoder<'t, 'm, 's> {
         ensures fault_is_true { IfErr result (BreaksFrame self.now.table.now (message self.now)
             frame (at_of state.old)) }
     {
-        let at = frame.base + frame.done;
+        let at = frame.base as usize + frame.done as usize;
         state.steps += 1;
         self.read_flat(entry, kind, at, frame.depth, state)?;
-        let done = frame.done + size;
-        let over = frame.base + done;
-        let stop = frame.base + frame.size;
+        let done = frame.done as usize + size;
+        let over = frame.base as usize + done;
+        let stop = frame.base as usize + frame.size as usize;
         state.steps += (stop - over) as u64 + 1;
         self.zeros_at(over, stop, state)?;
-        if state.next != until.next || state.handle != until.handle {
-            return Err(DecodeFault::WrongCounts { at: until.envelope });
+        if state.next != until.next as usize || state.handle != until.handle as usize {
+            return Err(DecodeFault::WrongCounts {
+                at: until.envelope as usize,
+            });
         }
         Ok(())
     }
@@ -198,10 +202,10 @@ impl<'t, 'm, 's> Decoder<'t, 'm, 's> {
                 size,
                 count,
                 until,
-            } => self.take_content(frame, entry, size, count, until, state),
+            } => self.take_content(frame, entry, size as usize, count, until, state),
             Remaining::Rows { first, count } => self.take_row(frame, first, count, state),
             Remaining::Elements { entry, size, count } => {
-                self.take_elements(frame, entry, size, count, state)
+                self.take_elements(frame, entry, size as usize, count, state)
             }
         }
     }

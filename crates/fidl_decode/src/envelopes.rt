@@ -37,7 +37,9 @@ fn content_frame(
     depth: u8,
     in_envelope: u8,
 ) -> Frame
-    requires { content.now.nest < 255 }
+    requires nest { content.now.nest < 255 }
+    requires near { base ≤ MAX_MESSAGE_BYTES }
+    requires small { size ≤ MAX_MESSAGE_BYTES }
     ensures { result ≡ record {
       left = left.Content entry content.now.size 1 until;
       base = base;
@@ -50,15 +52,15 @@ fn content_frame(
 {
     let left = Remaining::Content {
         entry,
-        size: content.size as usize,
+        size: content.size,
         count: 1,
         until,
     };
     Frame {
         left,
-        base,
+        base: base as u32,
         done: 0,
-        size,
+        size: size as u32,
         nest: content.nest + 1,
         depth,
         in_envelope,
@@ -145,9 +147,9 @@ impl<'t, 'm, 's> Decoder<'t, 'm, 's> {
             }
             state.links.link_inside(envelope, state.handle);
             let until = Until {
-                envelope,
-                next,
-                handle: state.handle + handles,
+                envelope: envelope as u32,
+                next: next as u32,
+                handle: (state.handle + handles) as u32,
             };
             return Ok(content_frame(entry, &content, until, envelope, 4, depth, 1));
         }
@@ -167,9 +169,9 @@ impl<'t, 'm, 's> Decoder<'t, 'm, 's> {
         state.links.link_outside(envelope, next, state.handle);
         state.next = next + whole;
         let until = Until {
-            envelope,
-            next: next + counted,
-            handle: state.handle + handles,
+            envelope: envelope as u32,
+            next: (next + counted) as u32,
+            handle: (state.handle + handles) as u32,
         };
         Ok(content_frame(entry, &content, until, next, whole, depth + 1, 0))
     }

@@ -54,11 +54,11 @@ impl<'t, 'm, 's> Decoder<'t, 'm, 's> {
         let row = self.row(first);
         let e = self.entry(row.entry);
         let done = row.key as usize + e.size as usize;
-        if done != frame.size {
+        if done != frame.size as usize {
             return Ok(Some(frame));
         }
-        let read = frame.base + frame.done;
-        let place = frame.base + row.key as usize;
+        let read = frame.base as usize + frame.done as usize;
+        let place = frame.base as usize + row.key as usize;
         state.steps += (place - read) as u64 + 1;
         self.zeros_at(read, place, state)?;
         let below = self.visit(row.entry, place, frame.depth, frame.in_envelope, state)?;
@@ -142,15 +142,15 @@ impl<'t, 'm, 's> Decoder<'t, 'm, 's> {
         ensures fault_is_true { IfErr result (BreaksFrame self.now.table.now (message self.now)
             frame (at_of state.old)) }
     {
-        let mut done = frame.done;
+        let mut done = frame.done as usize;
         for i in 0..count {
-            let place = frame.base + done;
+            let place = frame.base as usize + done;
             state.steps += 1;
             self.read_leaf(entry, kind, place, frame.depth, state)?;
             done += size;
         }
-        let at = frame.base + done;
-        let stop = frame.base + frame.size;
+        let at = frame.base as usize + done;
+        let stop = frame.base as usize + frame.size as usize;
         state.steps += (stop - at) as u64 + 1;
         self.zeros_at(at, stop, state)
     }
@@ -181,8 +181,8 @@ impl<'t, 'm, 's> Decoder<'t, 'm, 's> {
         ensures fault_is_true { IfErr result (BreaksFrame self.now.table.now (message self.now)
             frame (at_of state.old)) }
     {
-        let from = frame.base + frame.done + size * count as usize;
-        let stop = frame.base + frame.size;
+        let from = frame.base as usize + frame.done as usize + size * count as usize;
+        let stop = frame.base as usize + frame.size as usize;
         state.steps += (stop - from) as u64 + 1;
         self.zeros_at(from, stop, state)
     }
@@ -261,14 +261,14 @@ impl<'t, 'm, 's> Decoder<'t, 'm, 's> {
         match frame.left {
             Remaining::Rows { .. } => self.read_boxed(frame, state),
             Remaining::Elements { entry, size, count } => {
-                self.read_elements(frame, entry, size, count, state)
+                self.read_elements(frame, entry, size as usize, count, state)
             }
             Remaining::Content {
                 entry,
                 size,
                 count,
                 until,
-            } => self.read_content(frame, entry, size, count, until, state),
+            } => self.read_content(frame, entry, size as usize, count, until, state),
             Remaining::Envelopes { .. } => Ok(Some(frame)),
         }
     }

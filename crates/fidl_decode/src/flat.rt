@@ -96,7 +96,7 @@ impl<'t, 'm, 's> Decoder<'t, 'm, 's> {
         let _rows = self.table.rows();
         let mut next = first;
         let mut many = count;
-        let mut done = frame.done;
+        let mut done = frame.done as usize;
         while many != 0 {
             let rest = rows_from(frame, next, many, done);
             let row = self.row(next);
@@ -150,9 +150,9 @@ impl<'t, 'm, 's> Decoder<'t, 'm, 's> {
                 first: e.first,
                 count: e.count,
             },
-            base: place,
+            base: place as u32,
             done: 0,
-            size: e.size as usize,
+            size: e.size,
             nest: e.nest,
             depth,
             in_envelope: 0,

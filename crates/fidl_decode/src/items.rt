@@ -129,9 +129,9 @@ impl<'t, 'm, 's> Decoder<'t, 'm, 's> {
     {
         // A copy, so that writing a link is known to leave it.
         let own = frame;
-        let mut done = own.done;
+        let mut done = own.done as usize;
         for i in 0..count {
-            let place = own.base + done;
+            let place = own.base as usize + done;
             state.steps += 1;
             let found = self.read_element::<TABLES>(
                 entry,
@@ -147,11 +147,11 @@ impl<'t, 'm, 's> Decoder<'t, 'm, 's> {
                     rest: Some(Frame {
                         left: Remaining::Elements {
                             entry,
-                            size,
+                            size: size as u32,
                             count: count - (i + 1),
                         },
                         base: own.base,
-                        done,
+                        done: done as u32,
                         size: own.size,
                         nest: own.nest,
                         depth: own.depth,
@@ -160,8 +160,8 @@ impl<'t, 'm, 's> Decoder<'t, 'm, 's> {
                 });
             }
         }
-        let behind = own.base + done;
-        let stop = own.base + own.size;
+        let behind = own.base as usize + done;
+        let stop = own.base as usize + own.size as usize;
         state.steps += (stop - behind) as u64 + 1;
         self.zeros_at(behind, stop, state)?;
         Ok(Turn {

@@ -70,8 +70,8 @@ impl<'t, 'm, 's> Decoder<'t, 'm, 's> {
             frame (at_of state.old)) }
     {
         let row = self.row(first);
-        let read = frame.base + frame.done;
-        let place = frame.base + row.key as usize;
+        let read = frame.base as usize + frame.done as usize;
+        let place = frame.base as usize + row.key as usize;
         state.steps += (place - read) as u64 + 1;
         self.zeros_at(read, place, state)?;
         let below = self.read_box(row.entry, place, frame.depth, state)?;
@@ -114,8 +114,8 @@ impl<'t, 'm, 's> Decoder<'t, 'm, 's> {
             frame (at_of state.old)) }
     {
         let row = self.row(first);
-        let front = frame.base + frame.done;
-        let place = frame.base + row.key as usize;
+        let front = frame.base as usize + frame.done as usize;
+        let place = frame.base as usize + row.key as usize;
         state.steps += (place - front) as u64 + 1;
         self.zeros_at(front, place, state)?;
         self.read_leaf(row.entry, kind, place, frame.depth, state)?;
@@ -146,8 +146,8 @@ impl<'t, 'm, 's> Decoder<'t, 'm, 's> {
         ensures fault_is_true { IfErr result (BreaksFrame self.now.table.now (message self.now)
             frame (at_of state.old)) }
     {
-        let over = frame.base + frame.done;
-        let stop = frame.base + frame.size;
+        let over = frame.base as usize + frame.done as usize;
+        let stop = frame.base as usize + frame.size as usize;
         state.steps += (stop - over) as u64 + 1;
         self.zeros_at(over, stop, state)
     }
@@ -188,7 +188,7 @@ impl<'t, 'm, 's> Decoder<'t, 'm, 's> {
         let mut holder = frame;
         let mut next = first;
         let mut many = count;
-        let mut done = frame.done;
+        let mut done = frame.done as usize;
         while many != 0 {
             let rest = rows_from(holder, next, many, done);
             let row = self.row(next);
@@ -203,7 +203,7 @@ impl<'t, 'm, 's> Decoder<'t, 'm, 's> {
                 many -= 1;
                 continue;
             }
-            if !self.ends_in_box(next, many, holder.size) {
+            if !self.ends_in_box(next, many, holder.size as usize) {
                 return Ok(Some(rest));
             }
             let Some(below) = self.enter_box(rest, next, state)? else {
@@ -220,7 +220,7 @@ impl<'t, 'm, 's> Decoder<'t, 'm, 's> {
             holder = content;
             next = front;
             many = behind;
-            done = content.done;
+            done = content.done as usize;
         }
         self.end_rows(rows_from(holder, next, 0, done), state)?;
         Ok(None)

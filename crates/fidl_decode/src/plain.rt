@@ -49,6 +49,7 @@ pub(crate) struct Plain {
 /// A frame with so many rows left, from the first on, and so many of its bytes read.
 #[inline(always)]
 pub(crate) fn rows_from(frame: Frame, first: u32, count: u32, done: usize) -> Frame
+    requires small { done ≤ MAX_MESSAGE_BYTES }
     ensures { result ≡ record {
       left = left.Rows first count;
       base = frame.base;
@@ -62,7 +63,7 @@ pub(crate) fn rows_from(frame: Frame, first: u32, count: u32, done: usize) -> Fr
     Frame {
         left: Remaining::Rows { first, count },
         base: frame.base,
-        done,
+        done: done as u32,
         size: frame.size,
         nest: frame.nest,
         depth: frame.depth,
@@ -217,7 +218,7 @@ impl<'t, 'm, 's> Decoder<'t, 'm, 's> {
             (record { below = None; rest = Some result }) }
         ensures grows { state.old.steps ≤ state.new.steps }
     {
-        if !self.is_good(frame.base, plain.flag, state) {
+        if !self.is_good(frame.base as usize, plain.flag, state) {
             return frame;
         }
         state.steps += u64::from(plain.rows);

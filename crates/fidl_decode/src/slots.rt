@@ -1,7 +1,7 @@
 //! The envelopes of a table, and their members, which are read in place.
 ghost use Rattle.std.specs.Prelude.{◌≡◌, ◌+◌, ◌-◌, ◌*◌, ◌^◌, ◌<◌, ◌≤◌, OnOk, IfOk, IfErr};
 ghost use Rattle.std.specs.Prelude.{IfSome, IfNone, IsTrue, Some, None, length};
-ghost use Rattle.fidl_limits.specs.declared.limits.TheConstants.{MAX_DEPTH};
+ghost use Rattle.fidl_limits.specs.declared.limits.TheConstants.{MAX_DEPTH, MAX_MESSAGE_BYTES};
 ghost use Rattle.fidl_wire.specs.Term as ty;
 ghost use Rattle.fidl_wire.specs.Term.{find};
 ghost use Rattle.fidl_table_format.specs.Kind.{kind_of};
@@ -27,12 +27,13 @@ use fidl_table_format::{Entry, EntryKind, Row};
 /// A frame with so many envelopes left, behind those that are read, and so many of its bytes read.
 #[inline(always)]
 fn envelopes_from(frame: Frame, entry: u32, read: u32, count: u32, done: usize) -> Frame
+    requires small { done ≤ MAX_MESSAGE_BYTES }
     ensures { result ≡ behind_envelopes frame entry read count done }
 {
     Frame {
         left: Remaining::Envelopes { entry, read, count },
         base: frame.base,
-        done,
+        done: done as u32,
         size: frame.size,
         nest: frame.nest,
         depth: frame.depth,
@@ -77,7 +78,7 @@ impl<'t, 'm, 's> Decoder<'t, 'm, 's> {
         let Remaining::Content { size, until, .. } = frame.left else {
             unreachable!()
         };
-        self.read_whole(frame, entry, kind, size, until, state)
+        self.read_whole(frame, entry, kind, size as usize, until, state)
     }
 
     /// Reads the known member of the envelope at a place in place, where it is a leaf or a struct
@@ -226,7 +227,7 @@ impl<'t, 'm, 's> Decoder<'t, 'm, 's> {
             frame (at_of state.old)) }
     {
         state.steps += 1;
-        let place = frame.base + frame.done;
+        let place = frame.base as usize + frame.done as usize;
         if self.is_absent(place, state) {
             return Ok(None);
         }
@@ -263,7 +264,7 @@ impl<'t, 'm, 's> Decoder<'t, 'm, 's> {
         let parts = self.entry(entry);
         let mut passed = read;
         let mut many = count;
-        let mut done = frame.done;
+        let mut done = frame.done as usize;
         while many != 0 {
             let now = envelopes_from(frame, entry, passed, many, done);
             let below = self.take_envelope(now, entry, &parts, passed, many, state)?;

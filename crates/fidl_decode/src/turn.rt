@@ -70,17 +70,17 @@ impl<'t, 'm, 's> Decoder<'t, 'm, 's> {
         let e = self.entry(entry);
         let plain = self.plain_rows(e.first, e.count);
         let known = self.plain_below(e.first, e.count);
-        let mut done = frame.done;
+        let mut done = frame.done as usize;
         for i in 0..count {
-            let place = frame.base + done;
+            let place = frame.base as usize + done;
             let below = Frame {
                 left: Remaining::Rows {
                     first: e.first,
                     count: e.count,
                 },
-                base: place,
+                base: place as u32,
                 done: 0,
-                size: e.size as usize,
+                size: e.size,
                 nest: e.nest,
                 depth: frame.depth,
                 in_envelope: frame.in_envelope,
@@ -94,11 +94,11 @@ impl<'t, 'm, 's> Decoder<'t, 'm, 's> {
                     rest: Some(Frame {
                         left: Remaining::Elements {
                             entry,
-                            size,
+                            size: size as u32,
                             count: count - (i + 1),
                         },
                         base: frame.base,
-                        done,
+                        done: done as u32,
                         size: frame.size,
                         nest: frame.nest,
                         depth: frame.depth,
@@ -107,8 +107,8 @@ impl<'t, 'm, 's> Decoder<'t, 'm, 's> {
                 });
             }
         }
-        let behind = frame.base + done;
-        let stop = frame.base + frame.size;
+        let behind = frame.base as usize + done;
+        let stop = frame.base as usize + frame.size as usize;
         state.steps += (stop - behind) as u64 + 1;
         self.zeros_at(behind, stop, state)?;
         Ok(Turn {

@@ -95,14 +95,14 @@ impl<'t, 'm, 's> Decoder<'t, 'm, 's> {
         state.next = from + size;
         let left = Remaining::Elements {
             entry: e.first,
-            size: each,
+            size: each as u32,
             count: count as u32,
         };
         Ok(Some(Frame {
             left,
-            base: from,
+            base: from as u32,
             done: 0,
-            size,
+            size: size as u32,
             nest: element.nest + 1,
             depth: depth + 1,
             in_envelope: 0,
@@ -143,6 +143,6 @@ impl<'t, 'm, 's> Decoder<'t, 'm, 's> {
         let Remaining::Elements { entry, size, count } = frame.left else {
             unreachable!()
         };
-        self.pass_elements(frame, entry, size, count, state)
+        self.pass_elements(frame, entry, size as usize, count, state)
     }
 }

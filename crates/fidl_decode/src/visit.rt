@@ -63,9 +63,9 @@ impl<'t, 'm, 's> Decoder<'t, 'm, 's> {
                 };
                 Ok(Some(Frame {
                     left,
-                    base: place,
+                    base: place as u32,
                     done: 0,
-                    size: e.size as usize,
+                    size: e.size,
                     nest: e.nest,
                     depth,
                     in_envelope,
@@ -75,14 +75,14 @@ impl<'t, 'm, 's> Decoder<'t, 'm, 's> {
                 let size = self.entry(e.first).size as usize;
                 let left = Remaining::Elements {
                     entry: e.first,
-                    size,
+                    size: size as u32,
                     count: e.count,
                 };
                 Ok(Some(Frame {
                     left,
-                    base: place,
+                    base: place as u32,
                     done: 0,
-                    size: e.size as usize,
+                    size: e.size,
                     nest: e.nest,
                     depth,
                     in_envelope,
@@ -132,8 +132,8 @@ impl<'t, 'm, 's> Decoder<'t, 'm, 's> {
         // Read, so that the number of rows, and with it each row's, is known to have 32 bits.
         let _rows = self.table.rows();
         let row = self.row(first);
-        let front = frame.base + frame.done;
-        let place = frame.base + row.key as usize;
+        let front = frame.base as usize + frame.done as usize;
+        let place = frame.base as usize + row.key as usize;
         state.steps += (place - front) as u64 + 1;
         self.zeros_at(front, place, state)?;
         let below = self.visit(row.entry, place, frame.depth, frame.in_envelope, state)?;

@@ -72,7 +72,7 @@ impl<'t, 'a, 'm, 's> Columns<'t, 'a, 'm, 's> {
         let structs = Structs {
             entry: e,
             count,
-            base: frame.base + frame.done,
+            base: frame.base as usize + frame.done as usize,
             depth: frame.depth,
             in_envelope: frame.in_envelope,
         };
@@ -80,7 +80,7 @@ impl<'t, 'a, 'm, 's> Columns<'t, 'a, 'm, 's> {
             return Err(wrong.fault);
         }
         let behind = structs.base + size * count as usize;
-        let stop = frame.base + frame.size;
+        let stop = frame.base as usize + frame.size as usize;
         *steps += u64::from(count) + (stop - behind) as u64 + 1;
         zeros_at(self.links.raw(), behind, stop)?;
         Ok(true)

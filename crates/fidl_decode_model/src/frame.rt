@@ -1,4 +1,7 @@
 //! What the decoder still has to read of a struct, an array, a vector, a table or an envelope.
+//!
+//! Frames are moved and cleared as the decoder goes, so their places and sizes have 32 bits. A message
+//! has fewer bytes than that.
 
 use fidl_links::Links;
 
@@ -6,9 +9,9 @@ use fidl_links::Links;
 /// envelope counts them.
 #[derive(Clone, Copy, Drop)]
 pub struct Until {
-    pub envelope: usize,
-    pub next: usize,
-    pub handle: usize,
+    pub envelope: u32,
+    pub next: u32,
+    pub handle: u32,
 }
 
 /// The members that are left of a struct, an array, a vector, a table or an envelope.
@@ -22,7 +25,7 @@ pub enum Remaining {
     /// So many elements of an entry of this size.
     Elements {
         entry: u32,
-        size: usize,
+        size: u32,
         count: u32,
     },
     /// So many envelopes of a value of a table entry, behind those that are read.
@@ -34,7 +37,7 @@ pub enum Remaining {
     /// The content of an envelope: one value of an entry of this size, or, where it is read, none.
     Content {
         entry: u32,
-        size: usize,
+        size: u32,
         count: u32,
         until: Until,
     },
@@ -53,10 +56,10 @@ pub struct Frame {
     /// The members that are left.
     pub left: Remaining,
     /// Where it stands in the message.
-    pub base: usize,
+    pub base: u32,
     /// How many of its bytes are read, and how many it has.
-    pub done: usize,
-    pub size: usize,
+    pub done: u32,
+    pub size: u32,
     pub nest: u8,
     pub depth: u8,
     /// 1 in the four bytes of an envelope, else 0.

@@ -1,8 +1,9 @@
+use Rattle.fidl_decode_model.proofs.Turning.{done_fits}
 use Rattle.fidl_decode.specs.Reading.{message}
 use Rattle.std.proofs.Common.{◌≡◌, ◌+◌, ◌-◌, refl, sym, subst, arith}
 use Rattle.std.specs.Prelude.{Some}
 use Rattle.fidl_decode_model.specs.declared.frame.Frame.{Frame}
-use Rattle.fidl_decode_model.specs.Machine.{Turns, at_of}
+use Rattle.fidl_decode_model.specs.Machine.{Turns, at_of, behind_rows}
 use Rattle.fidl_decode_columns.proofs.Leaves.{left_over, turns_start}
 use Rattle.fidl_decode.proofs.ReadyRows.{flag_free}
 use Rattle.fidl_decode.proofs.decoder.Decoder.pass_over.Goals as goal
@@ -40,3 +41,11 @@ returns-clause-turns c =
     let one = c.requires.passes f old c.requires.frame refl c.requires.start c.requires.state (c.is_good.ensures c.if-not-is_good.false) in
     let counted = subst (λ (g : Frame). Turns t m f old old c.args.plain.now.rows (left_over (Some g))) (sym c.rows_from.ensures) one in
     subst (λ n. Turns t m f old old n (left_over (Some c.rows_from.result))) spent counted
+
+pub rows_from-requires : goal.rows_from-requires
+rows_from-requires c =
+    let p = c.args.plain.now in
+    let g = behind_rows c.args.frame p.first p.count p.done in
+    let one = c.requires.passes c.args.frame (at_of c.args.state.now) c.requires.frame refl c.requires.start c.requires.state (c.is_good.ensures c.if-not-is_good.false) in
+    let read = done_fits c.args.self.now.table.now c.args.self.now.fine (message c.args.self.now) g (at_of c.args.state.now) one.rest_fine.0 one.state in
+    record { small = omega (arith, read, c.requires.frame.room, c.args.self.now.short) }

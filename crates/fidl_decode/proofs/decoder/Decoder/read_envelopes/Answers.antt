@@ -200,3 +200,13 @@ returns-in-Some-clause-fault_is_true c = tt
 
 pub returns-clause-fault_is_true : goal.returns-clause-fault_is_true
 returns-clause-fault_is_true c = tt
+
+pub envelopes_from-now-requires : goal.envelopes_from-now-requires
+envelopes_from-now-requires c =
+    let fine = c.loop-many.invariant.turns.rest_fine.0 in
+    record { small = omega (arith, fine.slots.0, fine.slots.1, c.requires.frame.room, c.args.self.now.short) }
+
+pub envelopes_from-requires : goal.envelopes_from-requires
+envelopes_from-requires c =
+    let fine = c.loop-many.invariant.turns.rest_fine.0 in
+    record { small = omega (arith, fine.slots.0, fine.slots.1, c.requires.frame.room, c.args.self.now.short, c.loop-many-test.true) }

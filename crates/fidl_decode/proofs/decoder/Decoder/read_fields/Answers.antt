@@ -13,7 +13,7 @@ use Rattle.fidl_decode_model.specs.Invariants.{is_leaf}
 use Rattle.fidl_decode_model.specs.declared.frame.Frame.{Frame}
 use Rattle.fidl_decode_model.specs.declared.frame.Remaining.TheVariants.{Rows}
 use Rattle.fidl_decode_model.specs.Machine.{Turns, at_of, turn_work, IsPlain}
-use Rattle.fidl_decode_model.proofs.Turning.{on_ok_from, passed_on}
+use Rattle.fidl_decode_model.proofs.Turning.{on_ok_from, passed_on, done_fits}
 use Rattle.fidl_decode_model.proofs.Visiting.{same_some}
 use Rattle.fidl_decode_columns.proofs.Leaves.{going_on, same_frame, left_over, turns_start, turns_then, turns_break}
 use Rattle.fidl_decode.proofs.ReadyRows.{rest_ready}
@@ -176,10 +176,18 @@ pub rows-rows-requires : goal.rows-rows-requires
 rows-rows-requires c = tt
 
 pub rows_from-rest-requires : goal.rows_from-rest-requires
-rows_from-rest-requires c = tt
+rows_from-rest-requires c =
+    let g = going_on c.args.frame (Rows c.loop-many.next c.loop-many.many) c.loop-many.done in
+    let turns = c.loop-many.invariant.turns in
+    let read = done_fits c.args.self.now.table.now c.args.self.now.fine (message c.args.self.now) g (at_of c.loop-many.state) turns.rest_fine.0 turns.state in
+    record { small = omega (arith, read, c.requires.frame.room, c.args.self.now.short) }
 
 pub rows_from-requires : goal.rows_from-requires
-rows_from-requires c = tt
+rows_from-requires c =
+    let g = going_on c.args.frame (Rows c.loop-many.next c.loop-many.many) c.loop-many.done in
+    let turns = c.loop-many.invariant.turns in
+    let read = done_fits c.args.self.now.table.now c.args.self.now.fine (message c.args.self.now) g (at_of c.loop-many.state) turns.rest_fine.0 turns.state in
+    record { small = omega (arith, read, c.requires.frame.room, c.args.self.now.short) }
 
 pub row-row-requires : goal.row-row-requires
 row-row-requires c = first_in c.loop-many.next c.loop-many.many _ c.loop-many.invariant.turns.rest_fine.0.left c.loop-many-test.true

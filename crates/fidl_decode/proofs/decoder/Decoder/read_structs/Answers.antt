@@ -613,3 +613,60 @@ zeros_at-requires-clause-free c =
     let t = c.args.self.now.table.now in
     let m = message c.args.self.now in
     over_free t c.args.self.now.fine m c.args.frame (at_of c.args.state.now) (at_of c.loop-i.state) (c.loop-i.state.steps - c.args.state.now.steps) (going_on c.args.frame (Elements c.args.entry c.args.size (c.args.count - c.loop-i.i)) c.loop-i.done) c.loop-i.invariant.turns c.requires.ready
+
+pub overflow_cast-below : goal.overflow_cast-below
+overflow_cast-below c =
+    let is = c.loop-i.invariant.turns.rest_fine.0.left in
+    let one = elements_next c.args.self.now.table.now c.args.entry c.args.size c.loop-i.i c.args.count c.loop-i.done is c.loop-i-test.true in
+    let room = next_room c.args.self.now.table.now c.args.self.now.fine (message c.args.self.now) c.args.frame (at_of c.args.state.now)
+    (at_of c.loop-i.state) (c.loop-i.state.steps - c.args.state.now.steps)
+    (going_on c.args.frame (Elements c.args.entry c.args.size (c.args.count - c.loop-i.i)) c.loop-i.done) c.loop-i.invariant.turns
+    (let x : Row = record { offset = c.loop-i.done; entry = c.args.entry } in x)
+    (Elements c.args.entry c.args.size (c.args.count - (c.loop-i.i + 1))) one in
+    let before = room.0 in
+    let fits = room.1 in
+    let within = room.2 in
+    let own = next_size c.args.self.now.table.now c.args.self.now.fine (message c.args.self.now) c.args.frame (at_of c.args.state.now)
+    (at_of c.loop-i.state) (c.loop-i.state.steps - c.args.state.now.steps)
+    (going_on c.args.frame (Elements c.args.entry c.args.size (c.args.count - c.loop-i.i)) c.loop-i.done) c.loop-i.invariant.turns
+    (let x : Row = record { offset = c.loop-i.done; entry = c.args.entry } in x)
+    (Elements c.args.entry c.args.size (c.args.count - (c.loop-i.i + 1))) one in
+    record { fits = omega (arith, fits, within, own, c.args.self.now.short) }
+
+pub overflow_cast-result : goal.overflow_cast-result
+overflow_cast-result c =
+    let is = c.loop-i.invariant.turns.rest_fine.0.left in
+    let one = elements_next c.args.self.now.table.now c.args.entry c.args.size c.loop-i.i c.args.count c.loop-i.done is c.loop-i-test.true in
+    let room = next_room c.args.self.now.table.now c.args.self.now.fine (message c.args.self.now) c.args.frame (at_of c.args.state.now)
+    (at_of c.loop-i.state) (c.loop-i.state.steps - c.args.state.now.steps)
+    (going_on c.args.frame (Elements c.args.entry c.args.size (c.args.count - c.loop-i.i)) c.loop-i.done) c.loop-i.invariant.turns
+    (let x : Row = record { offset = c.loop-i.done; entry = c.args.entry } in x)
+    (Elements c.args.entry c.args.size (c.args.count - (c.loop-i.i + 1))) one in
+    let before = room.0 in
+    let fits = room.1 in
+    let within = room.2 in
+    let own = next_size c.args.self.now.table.now c.args.self.now.fine (message c.args.self.now) c.args.frame (at_of c.args.state.now)
+    (at_of c.loop-i.state) (c.loop-i.state.steps - c.args.state.now.steps)
+    (going_on c.args.frame (Elements c.args.entry c.args.size (c.args.count - c.loop-i.i)) c.loop-i.done) c.loop-i.invariant.turns
+    (let x : Row = record { offset = c.loop-i.done; entry = c.args.entry } in x)
+    (Elements c.args.entry c.args.size (c.args.count - (c.loop-i.i + 1))) one in
+    record { fits = omega (arith, fits, within, own, c.args.self.now.short) }
+
+pub overflow_cast-result-in-Some : goal.overflow_cast-result-in-Some
+overflow_cast-result-in-Some c =
+    let is = c.loop-i.invariant.turns.rest_fine.0.left in
+    let one = elements_next c.args.self.now.table.now c.args.entry c.args.size c.loop-i.i c.args.count c.loop-i.done is c.loop-i-test.true in
+    let room = next_room c.args.self.now.table.now c.args.self.now.fine (message c.args.self.now) c.args.frame (at_of c.args.state.now)
+    (at_of c.loop-i.state) (c.loop-i.state.steps - c.args.state.now.steps)
+    (going_on c.args.frame (Elements c.args.entry c.args.size (c.args.count - c.loop-i.i)) c.loop-i.done) c.loop-i.invariant.turns
+    (let x : Row = record { offset = c.loop-i.done; entry = c.args.entry } in x)
+    (Elements c.args.entry c.args.size (c.args.count - (c.loop-i.i + 1))) one in
+    let before = room.0 in
+    let fits = room.1 in
+    let within = room.2 in
+    let own = next_size c.args.self.now.table.now c.args.self.now.fine (message c.args.self.now) c.args.frame (at_of c.args.state.now)
+    (at_of c.loop-i.state) (c.loop-i.state.steps - c.args.state.now.steps)
+    (going_on c.args.frame (Elements c.args.entry c.args.size (c.args.count - c.loop-i.i)) c.loop-i.done) c.loop-i.invariant.turns
+    (let x : Row = record { offset = c.loop-i.done; entry = c.args.entry } in x)
+    (Elements c.args.entry c.args.size (c.args.count - (c.loop-i.i + 1))) one in
+    record { fits = omega (arith, fits, within, own, c.args.self.now.short) }

@@ -208,3 +208,12 @@ visit-requires-clause-ready c =
     let t = c.args.self.now.table.now in
     let m = message c.args.self.now in
     first_ready t c.args.self.now.fine m c.args.frame c.args.first c.args.count c.row-row.result c.requires.left (some_left c.args.count c.if-count-eq0.false) c.row-row.ensures.value (at_of c.args.state.now) c.requires.frame c.requires.state c.requires.ready
+
+pub rows_from-requires : goal.rows_from-requires
+rows_from-requires c =
+    let room = front_room c.args.self.now.table.now c.args.self.now.fine (message c.args.self.now) c.args.frame c.args.first c.args.count c.row-row.result
+    c.requires.left (some_left c.args.count c.if-count-eq0.false) c.row-row.ensures.value (at_of c.args.state.now) c.requires.frame c.requires.state in
+    let fits = room.1 in
+    let within = room.2 in
+    let is = ap (λ (d : Entry). d.size) c.entry.ensures.value in
+    record { small = omega (arith, is, fits, within, c.args.self.now.short) }
