@@ -17,6 +17,7 @@ pub mod Entered
 pub mod Skipped
 pub mod Unchanged
 pub mod Fitting
+pub mod Flags
 pub mod LeafContent
 pub mod Tail
 pub mod Last
@@ -26,6 +27,7 @@ pub mod Known
 pub mod Words
 pub mod Freely
 pub mod Sequences
+pub mod Structs
 pub mod BodyTurns
 pub mod TextMember
 pub mod ReadyPlaces

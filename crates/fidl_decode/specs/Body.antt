@@ -39,7 +39,7 @@ envelopes_behind entry base count depth read =
       in_envelope = 0;
     }
 
--- the same of noted envelopes
+-- the same, by what is noted of the entry
 abbrev pub rest_of : TableBody → (read : ℕ) → Frame
 rest_of b read = envelopes_behind b.entry b.base b.count b.depth read
 

@@ -27,7 +27,7 @@ impl<'t, 'm, 's> Decoder<'t, 'm, 's> {
     /// Whether so many rows, from the first on, are no more than are looked at, and their members are
     /// leaves.
     #[inline(never)]
-    fn are_leaves(&self, first: u32, count: u32) -> bool
+    pub(crate) fn are_leaves(&self, first: u32, count: u32) -> bool
         requires within { first + count ≤ (header_of self.now.table.now).rows }
         ensures { IsTrue result → AreLeaves self.now.table.now first count }
     {
@@ -67,8 +67,8 @@ impl<'t, 'm, 's> Decoder<'t, 'm, 's> {
     }
 
     /// Reads the rows of a struct in place, which are leaves, and the zeros before and behind them.
-    #[inline(never)]
-    fn read_fields(
+    #[inline(always)]
+    pub(crate) fn read_fields(
         &self,
         frame: Frame,
         first: u32,
@@ -110,6 +110,35 @@ impl<'t, 'm, 's> Decoder<'t, 'm, 's> {
             many -= 1;
         }
         self.end_rows(rows_from(frame, next, 0, done), state)
+    }
+
+    /// Does the same out of line.
+    #[inline(never)]
+    fn read_fields_apart(
+        &self,
+        frame: Frame,
+        first: u32,
+        count: u32,
+        state: &mut State<'_, '_>,
+    ) -> Result<(), DecodeFault>
+        requires frame { FrameFine self.now.table.now (came self.now) frame }
+        requires left { frame.left ≡ left.Rows first count }
+        requires leaves { AreLeaves self.now.table.now first count }
+        requires holds { Holds self.now state.old }
+        requires state { StateFine (message self.now) (at_of state.old) }
+        requires ready { CanReadFrame self.now state.old frame }
+        requires budget { state.old.steps + turn_work (came self.now) state.old.next frame < 2 ^ 40 }
+        ensures holds { Holds self.now state.new }
+        ensures ok { OnOk result
+            (Turns self.now.table.now (message self.now) frame
+            (at_of state.old) (at_of state.new) (state.new.steps - state.old.steps)
+            (record { below = None; rest = None })) }
+        ensures spends { Spends state.old.steps state.new.steps 1 (turn_work (came self.now)
+            state.old.next frame) }
+        ensures fault_is_true { IfErr result (BreaksFrame self.now.table.now (message self.now)
+            frame (at_of state.old)) }
+    {
+        self.read_fields(frame, first, count, state)
     }
 
     /// Reads a leaf, or a struct of leaves, at a place.
@@ -157,6 +186,6 @@ impl<'t, 'm, 's> Decoder<'t, 'm, 's> {
             depth,
             in_envelope: 0,
         };
-        self.read_fields(frame, e.first, e.count, state)
+        self.read_fields_apart(frame, e.first, e.count, state)
     }
 }

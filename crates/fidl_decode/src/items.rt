@@ -59,8 +59,8 @@ impl<'t, 'm, 's> Decoder<'t, 'm, 's> {
         self.read_leaves(below, state)
     }
 
-    /// Reads an element at a place, as `read_item` does. In a loop over tables alone, no other value is
-    /// thought of.
+    /// Reads an element at a place, as `read_item` does. A loop over tables alone has no code for other
+    /// values in it.
     #[inline(always)]
     fn read_element<const TABLES: bool>(
         &self,

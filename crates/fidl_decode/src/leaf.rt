@@ -48,10 +48,17 @@ impl<'t, 'm, 's> Decoder<'t, 'm, 's> {
         requires kind { kind_of (entry_at self.now.table.now entry).kind ≡ Some kind }
         ensures { result ≡ is_leaf self.now.table.now (entry_at self.now.table.now entry) kind }
     {
+        // Most kinds are told from these by one look.
         match kind {
-            EntryKind::Vector => self.is_free_at(self.entry(entry).first),
-            EntryKind::Array => self.is_free_at(self.entry(entry).first),
-            EntryKind::Box | EntryKind::Struct | EntryKind::Table | EntryKind::Union => false,
+            EntryKind::Vector
+            | EntryKind::Array
+            | EntryKind::Box
+            | EntryKind::Struct
+            | EntryKind::Table
+            | EntryKind::Union => match kind {
+                EntryKind::Vector | EntryKind::Array => self.is_free_at(self.entry(entry).first),
+                _ => false,
+            },
             _ => true,
         }
     }

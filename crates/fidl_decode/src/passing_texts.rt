@@ -40,7 +40,7 @@ pub(crate) fn are_ascii(bytes: &[u8], from: usize, size: usize) -> bool
 impl<'t, 'm, 's> Decoder<'t, 'm, 's> {
     /// Passes over the envelope at a place, whose member is a text of ASCII that is there, where its
     /// numbers are right. Else nothing is read.
-    #[inline(never)]
+    #[inline(always)]
     pub(crate) fn pass_text(
         &self,
         entry: u32,

@@ -1,19 +1,20 @@
 //! Numbers and bools that stand behind one another in a struct, without a gap: they need no more
 //! than a look at their rows, and at the byte of a bool.
-ghost use Rattle.std.specs.Prelude.{◌≡◌, ◌+◌, ◌-◌, ◌^◌, ◌<◌, ◌≤◌, OnOk, IfOk, IfErr, IfNone};
+ghost use Rattle.std.specs.Prelude.{◌≡◌, ◌⊎◌, ◌+◌, ◌-◌, ◌^◌, ◌<◌, ◌≤◌, OnOk, IfOk, IfErr, IfNone};
 ghost use Rattle.std.specs.Prelude.{ℕ, IfSome, IsTrue, Some, None, true, length};
 ghost use Rattle.std.proofs.Props.{props};
 ghost use Rattle.fidl_limits.specs.declared.limits.TheConstants.{MAX_DEPTH, MAX_MESSAGE_BYTES};
 ghost use Rattle.fidl_table_format.specs.declared.kind.EntryKind.{EntryKind};
 ghost use Rattle.fidl_table_format.specs.Kind.{kind_of};
 ghost use Rattle.fidl_table_format.specs.Section.{header_of, entry_at};
-ghost use Rattle.fidl_decode_model.specs.Invariants.{is_free};
+ghost use Rattle.fidl_decode_model.specs.Invariants.{is_free, AreLeaves};
 ghost use Rattle.fidl_decode_model.specs.declared.frame.Remaining.TheVariants as left;
 ghost use Rattle.fidl_decode_columns.specs.declared.kinds.TheConstants.{MOST_ROWS};
 ghost use Rattle.fidl_decode_model.specs.State.{Position};
 ghost use Rattle.fidl_decode_model.specs.Frontier.{AreFree};
 ghost use Rattle.fidl_decode_model.specs.Machine.{StateFine, FrameFine, Visits, Turns, BreaksFrame};
 ghost use Rattle.fidl_decode_model.specs.Machine.{IsGood, Passes, IsKnown, turn_work, at_of};
+ghost use Rattle.fidl_decode.specs.Over.{AreRowsOfLeaves};
 ghost use Rattle.fidl_decode.specs.Reading.{came, message, Holds};
 ghost use Rattle.fidl_decode.specs.Ready.{CanReadFrame};
 
@@ -75,7 +76,7 @@ impl<'t, 'm, 's> Decoder<'t, 'm, 's> {
     /// Whether the member of a row stands this far behind its struct's start, and any bytes are its
     /// value.
     #[inline(always)]
-    fn takes_any(&self, row: &Row, done: usize) -> bool
+    pub(crate) fn takes_any(&self, row: &Row, done: usize) -> bool
         requires row { row.now.entry < (header_of self.now.table.now).entries }
         ensures stands { IsTrue result → row.now.key ≡ done }
         ensures free { IsTrue result → (kind : EntryKind)
@@ -217,6 +218,8 @@ impl<'t, 'm, 's> Decoder<'t, 'm, 's> {
             (at_of state.new) (state.new.steps - state.old.steps)
             (record { below = None; rest = Some result }) }
         ensures grows { state.old.steps ≤ state.new.steps }
+        ensures left { (result.left ≡ frame.left)
+            ⊎ (result.left ≡ left.Rows plain.now.first plain.now.count) }
     {
         if !self.is_good(frame.base as usize, plain.flag, state) {
             return frame;
@@ -291,5 +294,83 @@ impl<'t, 'm, 's> Decoder<'t, 'm, 's> {
     {
         let rest = self.pass_over(frame, plain, state);
         self.read_struct(rest, known, state)
+    }
+
+    /// Reads a struct of leaves, of which the first rows are known to take any bytes but for a bool.
+    #[inline(always)]
+    fn read_past(
+        &self,
+        frame: Frame,
+        plain: &Plain,
+        state: &mut State<'_, '_>,
+    ) -> Result<(), DecodeFault>
+        requires frame { FrameFine self.now.table.now (came self.now) frame }
+        requires start { frame.done ≡ 0 }
+        requires passes { Passes self.now.table.now (message self.now) frame.left plain.now.rows
+            plain.now.first plain.now.count plain.now.done plain.now.flag }
+        requires leaves { AreRowsOfLeaves self.now.table.now frame.left }
+        requires behind { AreLeaves self.now.table.now plain.now.first plain.now.count }
+        requires holds { Holds self.now state.old }
+        requires state { StateFine (message self.now) (at_of state.old) }
+        requires ready { CanReadFrame self.now state.old frame }
+        requires budget { state.old.steps + turn_work (came self.now) state.old.next frame < 2 ^ 40 }
+        ensures holds { Holds self.now state.new }
+        ensures ok { OnOk result
+            (Turns self.now.table.now (message self.now) frame
+            (at_of state.old) (at_of state.new) (state.new.steps - state.old.steps)
+            (record { below = None; rest = None })) }
+        ensures rises { OnOk result (state.old.steps < state.new.steps) }
+        ensures cost { state.new.steps ≤ state.old.steps + turn_work (came self.now) state.old.next
+            frame }
+        ensures fault_is_true { IfErr result (BreaksFrame self.now.table.now (message self.now)
+            frame (at_of state.old)) }
+    {
+        let rest = self.pass_over(frame, plain, state);
+        let Remaining::Rows { first, count } = rest.left else {
+            unreachable!()
+        };
+        self.read_fields(rest, first, count, state)
+    }
+
+    /// Reads a struct of a vector, as `read_behind` does. A loop over structs of leaves alone has no code
+    /// for other structs in it, and nothing is left of one.
+    #[inline(always)]
+    pub(crate) fn read_one<const FLAT: bool>(
+        &self,
+        frame: Frame,
+        plain: &Plain,
+        known: &Plain,
+        state: &mut State<'_, '_>,
+    ) -> Result<Option<Frame>, DecodeFault>
+        requires frame { FrameFine self.now.table.now (came self.now) frame }
+        requires start { frame.done ≡ 0 }
+        requires passes { Passes self.now.table.now (message self.now) frame.left plain.now.rows
+            plain.now.first plain.now.count plain.now.done plain.now.flag }
+        requires known { IsKnown self.now.table.now (message self.now) known.now.rows
+            known.now.first known.now.count known.now.done known.now.flag }
+        requires leaves { IsTrue FLAT → AreRowsOfLeaves self.now.table.now frame.left }
+        requires behind { IsTrue FLAT
+            → AreLeaves self.now.table.now plain.now.first plain.now.count }
+        requires holds { Holds self.now state.old }
+        requires state { StateFine (message self.now) (at_of state.old) }
+        requires ready { CanReadFrame self.now state.old frame }
+        requires budget { state.old.steps + turn_work (came self.now) state.old.next frame < 2 ^ 40 }
+        ensures holds { Holds self.now state.new }
+        ensures ok { IfOk result
+            (λ rest. Turns self.now.table.now (message self.now)
+            frame (at_of state.old) (at_of state.new) (state.new.steps - state.old.steps)
+            (record { below = None; rest = rest })) }
+        ensures grows { OnOk result (state.old.steps ≤ state.new.steps) }
+        ensures ended { IfOk result (λ rest. IfNone rest (state.old.steps < state.new.steps)) }
+        ensures cost { state.new.steps ≤ state.old.steps + turn_work (came self.now) state.old.next
+            frame }
+        ensures fault_is_true { IfErr result (BreaksFrame self.now.table.now (message self.now)
+            frame (at_of state.old)) }
+    {
+        if FLAT {
+            self.read_past(frame, plain, state)?;
+            return Ok(None);
+        }
+        self.read_behind(frame, plain, known, state)
     }
 }

@@ -11,6 +11,7 @@ ghost use Rattle.fidl_table_format.specs.Section.{header_of, entry_at};
 ghost use Rattle.fidl_table_format.specs.Terms.{declarations_of};
 ghost use Rattle.fidl_decode_model.specs.Breaks.{Breaks};
 ghost use Rattle.fidl_decode_model.specs.declared.frame.Remaining.TheVariants as left;
+ghost use Rattle.fidl_decode_model.specs.Invariants.{AreLeaves};
 ghost use Rattle.fidl_decode_model.specs.Machine.{StateFine, FrameFine, BreaksFrame, Turns};
 ghost use Rattle.fidl_decode_model.specs.Machine.{IsInside, Visits, VisitFine};
 ghost use Rattle.fidl_decode_model.specs.Machine.{turn_work, value_work, at_of};
@@ -41,8 +42,9 @@ fn is_over(frame: &Frame) -> bool
 
 impl<'t, 'm, 's> Decoder<'t, 'm, 's> {
     /// Reads structs of an array or vector in place, up to a struct that holds more than leaves:
-    /// that one, where it stopped, is to be read next.
-    fn read_structs(
+    /// that one, where it stopped, is to be read next. Vectors of structs of leaves have a loop of
+    /// their own.
+    fn read_structs<const FLAT: bool>(
         &self,
         frame: Frame,
         entry: u32,
@@ -53,6 +55,8 @@ impl<'t, 'm, 's> Decoder<'t, 'm, 's> {
         requires left { frame.left ≡ left.Elements entry size count }
         requires entry { entry < (header_of self.now.table.now).entries }
         requires kind { kind_of (entry_at self.now.table.now entry).kind ≡ Some kinds.Struct }
+        requires leaves { let e = entry_at self.now.table.now entry in
+            IsTrue FLAT → AreLeaves self.now.table.now e.first e.count }
         requires frame { FrameFine self.now.table.now (came self.now) frame }
         requires holds { Holds self.now state.old }
         requires state { StateFine (message self.now) (at_of state.old) }
@@ -86,7 +90,7 @@ impl<'t, 'm, 's> Decoder<'t, 'm, 's> {
                 in_envelope: frame.in_envelope,
             };
             state.steps += 1;
-            let found = self.read_behind(below, &plain, &known, state)?;
+            let found = self.read_one::<FLAT>(below, &plain, &known, state)?;
             done += size;
             if let Some(inner) = found {
                 return Ok(Turn {
@@ -161,6 +165,22 @@ impl<'t, 'm, 's> Decoder<'t, 'm, 's> {
         columns.check_structs(frame, entry, size, count, &mut state.steps)
     }
 
+    /// Whether no struct of an array or vector is read yet, and their members are leaves.
+    #[inline(always)]
+    fn are_structs_of_leaves(&self, frame: &Frame, entry: u32) -> bool
+        requires entry { entry < (header_of self.now.table.now).entries }
+        requires kind { kind_of (entry_at self.now.table.now entry).kind ≡ Some kinds.Struct }
+        ensures { let e = entry_at self.now.table.now entry in
+            IsTrue result → AreLeaves self.now.table.now e.first e.count }
+    {
+        // Structs of leaves are read whole, so none is left to go on with.
+        if frame.done != 0 {
+            return false;
+        }
+        let e = self.entry(entry);
+        self.are_leaves(e.first, e.count)
+    }
+
     /// Reads structs of an array or vector in place: member by member where these are numbers alone,
     /// else up to a struct that holds more than leaves.
     #[inline(always)]
@@ -196,7 +216,10 @@ impl<'t, 'm, 's> Decoder<'t, 'm, 's> {
                 rest: None,
             });
         }
-        self.read_structs(frame, entry, size, count, state)
+        if self.are_structs_of_leaves(&frame, entry) {
+            return self.read_structs::<true>(frame, entry, size, count, state);
+        }
+        self.read_structs::<false>(frame, entry, size, count, state)
     }
 
     /// Reads elements of an array or vector in place, up to one that holds more than is read there.

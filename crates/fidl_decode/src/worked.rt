@@ -8,7 +8,7 @@ ghost use Rattle.fidl_decode_model.specs.declared.frame.Remaining.TheVariants.{E
 ghost use Rattle.fidl_decode_model.specs.Faults.{message_of};
 ghost use Rattle.fidl_decode_model.specs.Samples.{unlinked, linked_at_8, envelope_at};
 ghost use Rattle.fidl_decode.specs.Body.{IsFreeOf, IsPassing, envelopes_of};
-ghost use Rattle.fidl_decode.specs.Over.{NoRows, IsOver};
+ghost use Rattle.fidl_decode.specs.Over.{NoRows, IsOver, AreRowsOfLeaves};
 ghost use Rattle.fidl_decode.specs.Ready.{PlaceReady, ValueReady, FrameReady, IsApart, AreClear};
 ghost use Rattle.fidl_decode.specs.Ready.{StackReady};
 ghost use Rattle.fidl_decode.specs.declared.body.Passing.TheVariants.{Inside, Below};
@@ -58,6 +58,13 @@ pub fn frames_that_are_over()
     ensures element { ¬ (NoRows (Elements 0 8 2)) }
     ensures envelopes { ¬ (NoRows (Envelopes 0 1 0)) }
     ensures envelope { ¬ (IsOver (envelopes_of 0 16 0 1)) }
+{}
+
+/// Members of rows are leaves: of no rows, they are. Elements are no rows.
+pub fn rows_of_leaves()
+    ensures none { AreRowsOfLeaves [] (Rows 0 0) }
+    ensures elements { ¬ (AreRowsOfLeaves [] (Elements 0 8 0)) }
+    ensures envelopes { ¬ (AreRowsOfLeaves [] (Envelopes 0 0 0)) }
 {}
 
 /// A uint8 has one byte, of which any is a value: no number of four or eight is passed over so.

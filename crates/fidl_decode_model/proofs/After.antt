@@ -13,7 +13,8 @@ use Rattle.fidl_wire.proofs.Sizes.{le-next_multiple_of, size_of-resolve, length-
 use Rattle.fidl_wire.proofs.Unique.{no_out, length-envelopes}
 use Rattle.fidl_decode_model.specs.State.{Message, Position, opened, linked, member_at, begun, envelope_place, after, after_elements, after_fields, after_member, after_envelopes, StandsAt, ValueAt}
 use Rattle.fidl_decode_model.specs.Envelopes.{Contained, BreaksEnvelope, Miscounts, depth_within}
-use Rattle.fidl_decode_model.specs.Breaks.{Part, count_at, ordinal_at, BreaksRule, Breaks, BreaksParts, BreaksEnvelopes, BreaksMember, in_field, in_parts, in_object, in_table, in_union, at_member, behind_none, behind_member, by_numbers, in_envelope, out_of_line, by_counts, in_gap, in_next, in_later, in_end}
+use Rattle.fidl_decode_model.specs.Breaks.{Part, count_at, ordinal_at, BreaksRule, Breaks, BreaksParts, BreaksEnvelopes, BreaksMember, in_field, in_parts, in_object, in_table, in_union, at_member}
+use Rattle.fidl_decode_model.specs.Breaks.{behind_none, behind_member, by_numbers, in_envelope, out_of_line, by_counts, in_gap, in_next, in_later, in_end}
 use Rattle.fidl_decode_model.specs.declared.fault.DecodeFault.{DecodeFault}
 
 -- two states stand at the same object and the same handle

@@ -22,7 +22,8 @@ use Rattle.fidl_table_format.specs.Section.{header_of, entry_at}
 use Rattle.fidl_table_format.specs.Terms.{term_as, declarations_of, fields_from}
 use Rattle.fidl_decode_model.specs.Invariants.{EntryFine, IsFine}
 use Rattle.fidl_decode_model.specs.declared.fault.DecodeFault.{DecodeFault}
-use Rattle.fidl_decode_model.specs.declared.fault.DecodeFault.TheVariants.{TooLong, TooManyHandles, Truncated, Padding, BadBool, UnknownValue, UnknownBits, BadMarker, AbsentRequired, BadCount, OverBound, NotUtf8, BadEnvelope, WrongCounts, UnknownOrdinal, TooDeep, HandleMissing, WrongHandle, BytesLeft, HandlesLeft}
+use Rattle.fidl_decode_model.specs.declared.fault.DecodeFault.TheVariants.{TooLong, TooManyHandles, Truncated, Padding, BadBool, UnknownValue, UnknownBits, BadMarker, AbsentRequired, BadCount}
+use Rattle.fidl_decode_model.specs.declared.fault.DecodeFault.TheVariants.{OverBound, NotUtf8, BadEnvelope, WrongCounts, UnknownOrdinal, TooDeep, HandleMissing, WrongHandle, BytesLeft, HandlesLeft}
 use Rattle.fidl_decode_model.specs.Rows.{Row, table_rows, element_rows, RowsRise}
 use Rattle.fidl_decode_model.specs.State.{Message, Position, opened, linked, envelope_place, ValueAt, Members, Slots}
 use Rattle.fidl_decode_model.specs.Envelopes.{Contained}

@@ -6,10 +6,9 @@ use Rattle.fidl_wire.specs.Encoding.{present}
 use Rattle.fidl_wire.specs.Envelope.{bytes_below, handles_below, flags_at}
 use Rattle.fidl_wire.specs.Field.{number_at}
 use Rattle.fidl_wire.specs.Standing.{Stands}
-use Rattle.fidl_links.specs.Bits.{bit}
 use Rattle.fidl_links.specs.Coding.{out_of_line, inline, with_low, with_high}
 use Rattle.fidl_links.specs.Links.{Written, IsFree, IsFreeWord}
-use Rattle.fidl_links.specs.Marks.{Marks}
+use Rattle.fidl_links.specs.Marks.{Marks, marker_bit, envelope_bit, handle_bit}
 use Rattle.fidl_links.specs.Words.{word, words_of, Put}
 use Rattle.fidl_links.proofs.Linking.{Linkage, marker_linked, lower_linked, upper_linked, outside_linked, inside_linked}
 use Rattle.fidl_links.proofs.Numbers.{number_64, number_32, small_32, ones_32, ones_64, word_at, word_is}
@@ -34,12 +33,12 @@ module _ (b c : List ℕ) (m r : Marks) (p x : ℕ) (s : Written) (v : Seen b m 
   word_came : word s.came (p / 8) ≡ number_at w64 s.came p
   word_came = sym (word_at s.came p aligned)
 
-  pub marker_at : bit r.markers (p / 8) ≡ 1 → ((j : ℕ) → j ≢ p / 8 → bit r.markers j ≡ bit m.markers j) → r.envelopes ≡ m.envelopes → r.handles ≡ m.handles
+  pub marker_at : marker_bit r (p / 8) ≡ 1 → ((j : ℕ) → j ≢ p / 8 → marker_bit r j ≡ marker_bit m j) → ((j : ℕ) → envelope_bit r j ≡ envelope_bit m j) → ((j : ℕ) → handle_bit r j ≡ handle_bit m j)
       → 0 < x → x ≤ 2 ^ 24 → Stands s.came p present → Linkage c r s (slice_set s.objects (p / 8) x) s.records
   marker_at here elsewhere envelopes handles some few ones =
       marker_linked b c m r (p / 8) x s v within put fits here elsewhere envelopes handles some few (word_came ∙ ones_64 s.came p ones) cells.object cells.lower cells.upper
 
-  module _ (here : bit r.envelopes (p / 8) ≡ 1) (elsewhere : (j : ℕ) → j ≢ p / 8 → bit r.envelopes j ≡ bit m.envelopes j) (markers : r.markers ≡ m.markers) (handles : r.handles ≡ m.handles) where
+  module _ (here : envelope_bit r (p / 8) ≡ 1) (elsewhere : (j : ℕ) → j ≢ p / 8 → envelope_bit r j ≡ envelope_bit m j) (markers : ((j : ℕ) → marker_bit r j ≡ marker_bit m j)) (handles : ((j : ℕ) → handle_bit r j ≡ handle_bit m j)) where
     half : (n : ℕ) → slice_set s.records (2 * (p / 8) + 1) n ≡ slice_set s.records ((p + 4) / 4) n
     half n = let e : 2 * (p / 8) + 1 ≡ (p + 4) / 4 = omega (arith, aligned) in ap (λ j. slice_set s.records j n) e
 
@@ -70,10 +69,10 @@ pub record Halved (b c : List ℕ) (m r : Marks) (s : Written) (p q : ℕ) : Typ
   pub small : q < 2 ^ 32
   pub ones : Stands s.came p (replicate 4 255)
   pub free : IsFree s p
-  pub mark : bit r.handles (p / 4) ≡ 1
-  pub others : (k : ℕ) → k ≢ p / 4 → bit r.handles k ≡ bit m.handles k
-  pub markers : r.markers ≡ m.markers
-  pub envelopes : r.envelopes ≡ m.envelopes
+  pub mark : handle_bit r (p / 4) ≡ 1
+  pub others : (k : ℕ) → k ≢ p / 4 → handle_bit r k ≡ handle_bit m k
+  pub markers : ((j : ℕ) → marker_bit r j ≡ marker_bit m j)
+  pub envelopes : ((j : ℕ) → envelope_bit r j ≡ envelope_bit m j)
 
 module _ (b c : List ℕ) (m r : Marks) (s : Written) (v : Seen b m s) (octets : (k : ℕ) → slice_index b k < 256) (q : ℕ) where
   -- one half is another number, and the other half stays
@@ -119,7 +118,7 @@ module _ (b c : List ℕ) (m r : Marks) (s : Written) (v : Seen b m s) (octets :
       let put = low_put i h (omega (arith, h.within, as_long b m s v)) in
       let ones : word s.came i % 2 ^ 32 ≡ 2 ^ 32 - 1 = omega (arith, word_is s.came i, number_64 s.came (8 * i), ones_32 s.came (8 * i) h.ones) in
       lower_linked b c m r i (with_low (word b i) q) s v within put (omega (arith, h.small, (v.sound i (omega (arith, within, as_long b m s v))).0))
-      (ap (bit r.handles) (sym cell) ∙ h.mark) (λ j ne. h.others j (λ e. ne (e ∙ cell))) h.markers h.envelopes q refl h.some h.small ones
+      (ap (handle_bit r) (sym cell) ∙ h.mark) (λ j ne. h.others j (λ e. ne (e ∙ cell))) h.markers h.envelopes q refl h.some h.small ones
       (ap (slice_index s.objects) (sym at) ∙ h.free.0) (ap (slice_index s.records) (sym cell) ∙ h.free.1)
 
   high_handle : (i : ℕ) → Halved b c m r s (8 * i + 4) q → Linkage c r s s.objects (slice_set s.records (2 * i + 1) q)
@@ -130,7 +129,7 @@ module _ (b c : List ℕ) (m r : Marks) (s : Written) (v : Seen b m s) (octets :
       let put = high_put i h (omega (arith, h.within, as_long b m s v)) in
       let small = small_32 s.came (8 * i) (λ k from to. came_small b m s v k (omega (arith, to, within, as_long b m s v))) in
       let ones : word s.came i / 2 ^ 32 ≡ 2 ^ 32 - 1 = omega (arith, word_is s.came i, number_64 s.came (8 * i), ones_32 s.came (8 * i + 4) h.ones, small) in
-      upper_linked b c m r i (with_high (word b i) q) s v within put (omega (arith, h.small)) (ap (bit r.handles) (sym cell) ∙ h.mark) (λ j ne. h.others j (λ e. ne (e ∙ cell)))
+      upper_linked b c m r i (with_high (word b i) q) s v within put (omega (arith, h.small)) (ap (handle_bit r) (sym cell) ∙ h.mark) (λ j ne. h.others j (λ e. ne (e ∙ cell)))
       h.markers h.envelopes q refl h.some h.small ones (ap (slice_index s.objects) (sym at) ∙ h.free.0) (ap (slice_index s.records) (sym cell) ∙ h.free.1)
 
   pub handle_at : (p : ℕ) → p % 4 ≡ 0 → Halved b c m r s p q → Linkage c r s s.objects (slice_set s.records (p / 4) q)

@@ -6,8 +6,7 @@ use Rattle.std.proofs.lemmas.Bool.{cases_eq, lt-ltb}
 use Rattle.std.proofs.lemmas.List.{same_lists, get_or_default}
 use Rattle.std.proofs.lemmas.List.Edits.{get_or-between, length-between}
 use Rattle.std.proofs.lemmas.List.FromFn.{length-map-range_with_len, get_or-map-range_with_len}
-use Rattle.fidl_links.specs.Marks.{Marks}
-use Rattle.fidl_links.specs.Bits.{bit}
+use Rattle.fidl_links.specs.Marks.{Marks, marker_bit, envelope_bit, handle_bit}
 use Rattle.fidl_links.specs.Words.{word, words_of}
 use Rattle.fidl_links.specs.Coding.{came_word, object_cell, record_cell}
 use Rattle.fidl_links.proofs.Parts.{number_there}
@@ -40,9 +39,9 @@ map_set f g n i v within here each =
 pub record Elsewhere (b c : List ℕ) (m r : Marks) (i : ℕ) : Type 0 where
   pub len : length c ≡ length b
   pub words : (j : ℕ) → j ≢ i → j < words_of b → word c j ≡ word b j
-  pub markers : (j : ℕ) → j ≢ i → bit r.markers j ≡ bit m.markers j
-  pub envelopes : (j : ℕ) → j ≢ i → bit r.envelopes j ≡ bit m.envelopes j
-  pub handles : (j : ℕ) → j / 2 ≢ i → bit r.handles j ≡ bit m.handles j
+  pub markers : (j : ℕ) → j ≢ i → marker_bit r j ≡ marker_bit m j
+  pub envelopes : (j : ℕ) → j ≢ i → envelope_bit r j ≡ envelope_bit m j
+  pub handles : (j : ℕ) → j / 2 ≢ i → handle_bit r j ≡ handle_bit m j
   pub tail : (k : ℕ) → 8 * words_of b ≤ k → slice_index c k ≡ slice_index b k
 
 pub five : (f : ℕ → ℕ → ℕ → ℕ → ℕ → ℕ) {a b c d e p q r s t : ℕ} → a ≡ p → b ≡ q → c ≡ r → d ≡ s → e ≡ t → f a b c d e ≡ f p q r s t

@@ -5,10 +5,9 @@ use Rattle.std.proofs.lemmas.List.Edits.{get_or-between}
 use Rattle.fidl_wire.specs.declared.marker.Presence.{Presence}
 use Rattle.fidl_wire.specs.Field.{number_at}
 use Rattle.fidl_wire.specs.Marker.{Says}
-use Rattle.fidl_links.specs.Bits.{bit}
 use Rattle.fidl_links.specs.Coding.{envelope_came, came_word}
 use Rattle.fidl_links.specs.Links.{Written, IsFree, AreFree, IsFreeWord, came_at}
-use Rattle.fidl_links.specs.Marks.{Marks}
+use Rattle.fidl_links.specs.Marks.{Marks, handle_bit}
 use Rattle.fidl_links.specs.Words.{word, words_of}
 use Rattle.fidl_links.proofs.Free.{side, free_in, agreed_part, agreed_marker}
 use Rattle.fidl_links.proofs.Numbers.{low_bytes, high_bytes}
@@ -55,17 +54,17 @@ module _ (b : List ℕ) (m : Marks) (s : Written) (v : Seen b m s) (octets : (k 
       let i = k / 8 in
       let h : i < words_of b = omega (arith, lt) in
       let cell : 2 * i ≡ k / 4 = omega (arith, half) in
-      let none = low_is_free _ _ _ (bit m.handles (2 * i + 1)) (word b i) (v.sound i h).1 (sym (object_is b m s v i h) ∙ free.0) (sym (low_is b m s v i h) ∙ ap (λ j. slice_index s.records j) cell ∙ free.1) in
-      from_word k lt (low_bytes _ _ (k - 8 * i) (omega (arith, half)) (low_came _ _ _ (bit m.handles (2 * i + 1)) (word b i) none.0 none.1 none.2))
+      let none = low_is_free _ _ _ (handle_bit m (2 * i + 1)) (word b i) (v.sound i h).1 (sym (object_is b m s v i h) ∙ free.0) (sym (low_is b m s v i h) ∙ ap (λ j. slice_index s.records j) cell ∙ free.1) in
+      from_word k lt (low_bytes _ _ (k - 8 * i) (omega (arith, half)) (low_came _ _ _ (handle_bit m (2 * i + 1)) (word b i) none.0 none.1 none.2))
 
   high_byte : (k : ℕ) → k < 8 * words_of b → 4 ≤ k % 8 → IsFree s k → slice_index b k ≡ slice_index s.came k
   high_byte k lt half free =
       let i = k / 8 in
       let h : i < words_of b = omega (arith, lt) in
       let cell : 2 * i + 1 ≡ k / 4 = omega (arith, half) in
-      let none = high_is_free _ _ (bit m.handles (2 * i)) _ (word b i) (v.sound i h).1 (sym (object_is b m s v i h) ∙ free.0) (sym (high_is b m s v i h) ∙ ap (λ j. slice_index s.records j) cell ∙ free.1) in
+      let none = high_is_free _ _ (handle_bit m (2 * i)) _ (word b i) (v.sound i h).1 (sym (object_is b m s v i h) ∙ free.0) (sym (high_is b m s v i h) ∙ ap (λ j. slice_index s.records j) cell ∙ free.1) in
       let at : 4 + (k - 8 * i - 4) ≡ k - 8 * i = omega (arith, half) in
-      let alike = high_bytes (came_at b m i) (word b i) (k - 8 * i - 4) (omega (arith, half)) (high_came _ _ (bit m.handles (2 * i)) _ (word b i) none.0 none.1 none.2) in
+      let alike = high_bytes (came_at b m i) (word b i) (k - 8 * i - 4) (omega (arith, half)) (high_came _ _ (handle_bit m (2 * i)) _ (word b i) none.0 none.1 none.2) in
       from_word k lt (subst (λ j. slice_index (to_le_bytes w64 (came_at b m i)) j ≡ slice_index (to_le_bytes w64 (word b i)) j) at alike)
 
   pub free_byte : (k : ℕ) → k < length s.came → IsFree s k → slice_index b k ≡ slice_index s.came k

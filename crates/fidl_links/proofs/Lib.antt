@@ -1,5 +1,5 @@
-pub mod BitMaps
 pub mod Numbers
+pub mod ByteBits
 pub mod Parts
 pub mod Codes
 pub mod Steps

@@ -1,8 +1,7 @@
 -- A link that is written into a word: what is seen then.
 use Rattle.std.proofs.Common.{◌≡◌, ◌≢◌, ℕ, ◌+◌, ◌-◌, ◌*◌, ◌/◌, ◌%◌, ◌^◌, ◌<◌, ◌≤◌, ◌⊎◌, inl, inr, List, slice_index, slice_set, sym, ap, subst, ◌∙◌, arith}
 use Rattle.std.proofs.lemmas.Bool.{cases_eq}
-use Rattle.fidl_links.specs.Marks.{Marks}
-use Rattle.fidl_links.specs.Bits.{bit}
+use Rattle.fidl_links.specs.Marks.{Marks, marker_bit, envelope_bit, handle_bit}
 use Rattle.fidl_links.specs.Words.{word, words_of, Put}
 use Rattle.fidl_links.specs.Coding.{came_word, object_cell, low_cell, high_cell, IsSound, out_of_line, inline, with_low, with_high}
 use Rattle.fidl_links.specs.Links.{Written, record_of, written}
@@ -35,11 +34,11 @@ sound_all b c m r i e sound here j lt =
       | inr ne ↦
           let w = e.words j ne below in (
             omega (arith, w, (sound j below).0),
-            subst (λ n. IsSound n (bit r.envelopes j) (bit r.handles (2 * j)) (bit r.handles (2 * j + 1)) (word c j)) (sym (e.markers j ne))
-                (subst (λ n. IsSound (bit m.markers j) n (bit r.handles (2 * j)) (bit r.handles (2 * j + 1)) (word c j)) (sym (e.envelopes j ne))
-                (subst (λ n. IsSound (bit m.markers j) (bit m.envelopes j) n (bit r.handles (2 * j + 1)) (word c j)) (sym (e.handles (2 * j) (λ x. ne (omega (arith, x)))))
-                (subst (λ n. IsSound (bit m.markers j) (bit m.envelopes j) (bit m.handles (2 * j)) n (word c j)) (sym (e.handles (2 * j + 1) (λ x. ne (omega (arith, x)))))
-                (subst (λ n. IsSound (bit m.markers j) (bit m.envelopes j) (bit m.handles (2 * j)) (bit m.handles (2 * j + 1)) n) (sym w) (sound j below).1)))),
+            subst (λ n. IsSound n (envelope_bit r j) (handle_bit r (2 * j)) (handle_bit r (2 * j + 1)) (word c j)) (sym (e.markers j ne))
+                (subst (λ n. IsSound (marker_bit m j) n (handle_bit r (2 * j)) (handle_bit r (2 * j + 1)) (word c j)) (sym (e.envelopes j ne))
+                (subst (λ n. IsSound (marker_bit m j) (envelope_bit m j) n (handle_bit r (2 * j + 1)) (word c j)) (sym (e.handles (2 * j) (λ x. ne (omega (arith, x)))))
+                (subst (λ n. IsSound (marker_bit m j) (envelope_bit m j) (handle_bit m (2 * j)) n (word c j)) (sym (e.handles (2 * j + 1) (λ x. ne (omega (arith, x)))))
+                (subst (λ n. IsSound (marker_bit m j) (envelope_bit m j) (handle_bit m (2 * j)) (handle_bit m (2 * j + 1)) n) (sym w) (sound j below).1)))),
           )
     ]
 
@@ -51,37 +50,37 @@ module _ (b c : List ℕ) (m r : Marks) (i x : ℕ) (s : Written) (v : Seen b m 
   inside : i < words_of b
   inside = inside_words b m s v i within
 
-  object_free : slice_index s.objects i ≡ 0 → object_cell (bit m.markers i) (bit m.envelopes i) (word b i) ≡ 0
+  object_free : slice_index s.objects i ≡ 0 → object_cell (marker_bit m i) (envelope_bit m i) (word b i) ≡ 0
   object_free z = sym (object_is b m s v i inside) ∙ z
 
-  low_free : slice_index s.records (2 * i) ≡ 0 → low_cell (bit m.markers i) (bit m.envelopes i) (bit m.handles (2 * i)) (word b i) ≡ 0
+  low_free : slice_index s.records (2 * i) ≡ 0 → low_cell (marker_bit m i) (envelope_bit m i) (handle_bit m (2 * i)) (word b i) ≡ 0
   low_free z = sym (low_is b m s v i inside) ∙ z
 
-  high_free : slice_index s.records (2 * i + 1) ≡ 0 → high_cell (bit m.markers i) (bit m.envelopes i) (bit m.handles (2 * i + 1)) (word b i) ≡ 0
+  high_free : slice_index s.records (2 * i + 1) ≡ 0 → high_cell (marker_bit m i) (envelope_bit m i) (handle_bit m (2 * i + 1)) (word b i) ≡ 0
   high_free z = sym (high_is b m s v i inside) ∙ z
 
   -- a marker's link
-  module _ (here : bit r.markers i ≡ 1) (elsewhere : (j : ℕ) → j ≢ i → bit r.markers j ≡ bit m.markers j) (envelopes : r.envelopes ≡ m.envelopes) (handles : r.handles ≡ m.handles) where
+  module _ (here : marker_bit r i ≡ 1) (elsewhere : (j : ℕ) → j ≢ i → marker_bit r j ≡ marker_bit m j) (envelopes : ((j : ℕ) → envelope_bit r j ≡ envelope_bit m j)) (handles : ((j : ℕ) → handle_bit r j ≡ handle_bit m j)) where
     marked : Elsewhere b c m r i
     marked = record {
       len = put.len;
       words = λ j ne lt. put.words j ne (omega (arith, lt));
       markers = elsewhere;
-      envelopes = λ j ne. ap (λ l. bit l j) envelopes;
-      handles = λ j ne. ap (λ l. bit l j) handles;
+      envelopes = λ j ne. envelopes j;
+      handles = λ j ne. handles j;
       tail = λ k le. put.tail k (omega (arith, le, inside));
     }
 
     pub marker_linked : 0 < x → x ≤ 2 ^ 24 → word s.came i ≡ 2 ^ 64 - 1 → slice_index s.objects i ≡ 0 → slice_index s.records (2 * i) ≡ 0 → slice_index s.records (2 * i + 1) ≡ 0 → Linkage c r s (slice_set s.objects i x) s.records
     marker_linked some few present z low high =
-        let h = bit m.handles (2 * i) in
-        let k = bit m.handles (2 * i + 1) in
-        let e = bit m.envelopes i in
+        let h = handle_bit m (2 * i) in
+        let k = handle_bit m (2 * i + 1) in
+        let e = envelope_bit m i in
         let w = word b i in
-        let step = link_marker (bit m.markers i) e h k w x (v.sound i inside).1 (object_free z) (low_free low) (high_free high) (sym (came_is b m s v i inside) ∙ present) some few in
-        let same_e = ap (λ l. bit l i) envelopes in
-        let same_h = ap (λ l. bit l (2 * i)) handles in
-        let same_k = ap (λ l. bit l (2 * i + 1)) handles in
+        let step = link_marker (marker_bit m i) e h k w x (v.sound i inside).1 (object_free z) (low_free low) (high_free high) (sym (came_is b m s v i inside) ∙ present) some few in
+        let same_e = envelopes i in
+        let same_h = handles (2 * i) in
+        let same_k = handles (2 * i + 1) in
         record {
           came = came_same b c m r i marked inside (five came_word here same_e same_h same_k put.number ∙ step.came) ∙ ap (λ (s : Written). s.came) v.is;
           objects_are = objects_set b c m r i marked inside x (three object_cell here same_e put.number ∙ step.object) ∙ ap (λ (s : Written). slice_set s.objects i x) v.is;
@@ -93,27 +92,27 @@ module _ (b c : List ℕ) (m r : Marks) (i x : ℕ) (s : Written) (v : Seen b m 
         }
 
   -- a handle's link, in the lower half
-  module _ (here : bit r.handles (2 * i) ≡ 1) (elsewhere : (j : ℕ) → j ≢ 2 * i → bit r.handles j ≡ bit m.handles j) (markers : r.markers ≡ m.markers) (envelopes : r.envelopes ≡ m.envelopes) where
+  module _ (here : handle_bit r (2 * i) ≡ 1) (elsewhere : (j : ℕ) → j ≢ 2 * i → handle_bit r j ≡ handle_bit m j) (markers : ((j : ℕ) → marker_bit r j ≡ marker_bit m j)) (envelopes : ((j : ℕ) → envelope_bit r j ≡ envelope_bit m j)) where
     lower_marked : Elsewhere b c m r i
     lower_marked = record {
       len = put.len;
       words = λ j ne lt. put.words j ne (omega (arith, lt));
-      markers = λ j ne. ap (λ l. bit l j) markers;
-      envelopes = λ j ne. ap (λ l. bit l j) envelopes;
+      markers = λ j ne. markers j;
+      envelopes = λ j ne. envelopes j;
       handles = λ j ne. elsewhere j (λ q. ne (omega (arith, q)));
       tail = λ k le. put.tail k (omega (arith, le, inside));
     }
 
     pub lower_linked : (q : ℕ) → x ≡ with_low (word b i) q → 0 < q → q < 2 ^ 32 → word s.came i % 2 ^ 32 ≡ 2 ^ 32 - 1 → slice_index s.objects i ≡ 0 → slice_index s.records (2 * i) ≡ 0 → Linkage c r s s.objects (slice_set s.records (2 * i) q)
     lower_linked q is some small ones z low =
-        let h = bit m.handles (2 * i) in
-        let k = bit m.handles (2 * i + 1) in
-        let e = bit m.envelopes i in
+        let h = handle_bit m (2 * i) in
+        let k = handle_bit m (2 * i + 1) in
+        let e = envelope_bit m i in
         let w = word b i in
-        let step = link_low (bit m.markers i) e h k w q (v.sound i inside).1 (object_free z) (low_free low) (ap (λ n. n % 2 ^ 32) (sym (came_is b m s v i inside)) ∙ ones) (v.sound i inside).0 some small in
+        let step = link_low (marker_bit m i) e h k w q (v.sound i inside).1 (object_free z) (low_free low) (ap (λ n. n % 2 ^ 32) (sym (came_is b m s v i inside)) ∙ ones) (v.sound i inside).0 some small in
         let number = put.number ∙ is in
-        let same_m = ap (λ l. bit l i) markers in
-        let same_e = ap (λ l. bit l i) envelopes in
+        let same_m = markers i in
+        let same_e = envelopes i in
         let same_k = elsewhere (2 * i + 1) (λ q. absurd (omega (arith, q))) in
         record {
           came = came_same b c m r i lower_marked inside (five came_word same_m same_e here same_k number ∙ step.came) ∙ ap (λ (s : Written). s.came) v.is;
@@ -126,27 +125,27 @@ module _ (b c : List ℕ) (m r : Marks) (i x : ℕ) (s : Written) (v : Seen b m 
         }
 
   -- and in the upper one
-  module _ (here : bit r.handles (2 * i + 1) ≡ 1) (elsewhere : (j : ℕ) → j ≢ 2 * i + 1 → bit r.handles j ≡ bit m.handles j) (markers : r.markers ≡ m.markers) (envelopes : r.envelopes ≡ m.envelopes) where
+  module _ (here : handle_bit r (2 * i + 1) ≡ 1) (elsewhere : (j : ℕ) → j ≢ 2 * i + 1 → handle_bit r j ≡ handle_bit m j) (markers : ((j : ℕ) → marker_bit r j ≡ marker_bit m j)) (envelopes : ((j : ℕ) → envelope_bit r j ≡ envelope_bit m j)) where
     upper_marked : Elsewhere b c m r i
     upper_marked = record {
       len = put.len;
       words = λ j ne lt. put.words j ne (omega (arith, lt));
-      markers = λ j ne. ap (λ l. bit l j) markers;
-      envelopes = λ j ne. ap (λ l. bit l j) envelopes;
+      markers = λ j ne. markers j;
+      envelopes = λ j ne. envelopes j;
       handles = λ j ne. elsewhere j (λ q. ne (omega (arith, q)));
       tail = λ k le. put.tail k (omega (arith, le, inside));
     }
 
     pub upper_linked : (q : ℕ) → x ≡ with_high (word b i) q → 0 < q → q < 2 ^ 32 → word s.came i / 2 ^ 32 ≡ 2 ^ 32 - 1 → slice_index s.objects i ≡ 0 → slice_index s.records (2 * i + 1) ≡ 0 → Linkage c r s s.objects (slice_set s.records (2 * i + 1) q)
     upper_linked q is some small ones z high =
-        let h = bit m.handles (2 * i) in
-        let k = bit m.handles (2 * i + 1) in
-        let e = bit m.envelopes i in
+        let h = handle_bit m (2 * i) in
+        let k = handle_bit m (2 * i + 1) in
+        let e = envelope_bit m i in
         let w = word b i in
-        let step = link_high (bit m.markers i) e h k w q (v.sound i inside).1 (object_free z) (high_free high) (ap (λ n. n / 2 ^ 32) (sym (came_is b m s v i inside)) ∙ ones) (v.sound i inside).0 some small in
+        let step = link_high (marker_bit m i) e h k w q (v.sound i inside).1 (object_free z) (high_free high) (ap (λ n. n / 2 ^ 32) (sym (came_is b m s v i inside)) ∙ ones) (v.sound i inside).0 some small in
         let number = put.number ∙ is in
-        let same_m = ap (λ l. bit l i) markers in
-        let same_e = ap (λ l. bit l i) envelopes in
+        let same_m = markers i in
+        let same_e = envelopes i in
         let same_h = elsewhere (2 * i) (λ q. absurd (omega (arith, q))) in
         record {
           came = came_same b c m r i upper_marked inside (five came_word same_m same_e same_h here number ∙ step.came) ∙ ap (λ (s : Written). s.came) v.is;
@@ -159,14 +158,14 @@ module _ (b c : List ℕ) (m r : Marks) (i x : ℕ) (s : Written) (v : Seen b m 
         }
 
   -- an envelope's link
-  module _ (here : bit r.envelopes i ≡ 1) (elsewhere : (j : ℕ) → j ≢ i → bit r.envelopes j ≡ bit m.envelopes j) (markers : r.markers ≡ m.markers) (handles_same : r.handles ≡ m.handles) where
+  module _ (here : envelope_bit r i ≡ 1) (elsewhere : (j : ℕ) → j ≢ i → envelope_bit r j ≡ envelope_bit m j) (markers : ((j : ℕ) → marker_bit r j ≡ marker_bit m j)) (handles_same : ((j : ℕ) → handle_bit r j ≡ handle_bit m j)) where
     enveloped : Elsewhere b c m r i
     enveloped = record {
       len = put.len;
       words = λ j ne lt. put.words j ne (omega (arith, lt));
-      markers = λ j ne. ap (λ l. bit l j) markers;
+      markers = λ j ne. markers j;
       envelopes = elsewhere;
-      handles = λ j ne. ap (λ l. bit l j) handles_same;
+      handles = λ j ne. handles_same j;
       tail = λ k le. put.tail k (omega (arith, le, inside));
     }
 
@@ -174,15 +173,15 @@ module _ (b c : List ℕ) (m r : Marks) (i x : ℕ) (s : Written) (v : Seen b m 
         → word s.came i ≡ counted + handles * 2 ^ 32 → slice_index s.objects i ≡ 0 → slice_index s.records (2 * i) ≡ 0 → slice_index s.records (2 * i + 1) ≡ 0
         → Linkage c r s (slice_set s.objects i object) (slice_set s.records (2 * i + 1) (first + 1))
     outside_linked object counted handles first is o some few n long t f counts z low high =
-        let h = bit m.handles (2 * i) in
-        let k = bit m.handles (2 * i + 1) in
-        let e = bit m.envelopes i in
+        let h = handle_bit m (2 * i) in
+        let k = handle_bit m (2 * i + 1) in
+        let e = envelope_bit m i in
         let w = word b i in
-        let step = link_outside object counted handles first o some few n long t f (bit m.markers i) e h k w (v.sound i inside).1 (object_free z) (low_free low) (high_free high) (sym (came_is b m s v i inside) ∙ counts) in
+        let step = link_outside object counted handles first o some few n long t f (marker_bit m i) e h k w (v.sound i inside).1 (object_free z) (low_free low) (high_free high) (sym (came_is b m s v i inside) ∙ counts) in
         let number = put.number ∙ is in
-        let same_m = ap (λ l. bit l i) markers in
-        let same_h = ap (λ l. bit l (2 * i)) handles_same in
-        let same_k = ap (λ l. bit l (2 * i + 1)) handles_same in
+        let same_m = markers i in
+        let same_h = handles_same (2 * i) in
+        let same_k = handles_same (2 * i + 1) in
         record {
           came = came_same b c m r i enveloped inside (five came_word same_m here same_h same_k number ∙ step.came) ∙ ap (λ (s : Written). s.came) v.is;
           objects_are = objects_set b c m r i enveloped inside object (three object_cell same_m here number ∙ step.object) ∙ ap (λ (s : Written). slice_set s.objects i object) v.is;
@@ -197,15 +196,15 @@ module _ (b c : List ℕ) (m r : Marks) (i x : ℕ) (s : Written) (v : Seen b m 
         → word s.came i / 2 ^ 32 ≡ handles + 2 ^ 16 → slice_index s.objects i ≡ 0 → slice_index s.records (2 * i) ≡ 0 → slice_index s.records (2 * i + 1) ≡ 0
         → Linkage c r s s.objects (slice_set s.records (2 * i + 1) (first + 1))
     inside_linked handles first is t f counts z low high =
-        let h = bit m.handles (2 * i) in
-        let k = bit m.handles (2 * i + 1) in
-        let e = bit m.envelopes i in
+        let h = handle_bit m (2 * i) in
+        let k = handle_bit m (2 * i + 1) in
+        let e = envelope_bit m i in
         let w = word b i in
-        let step = link_inside handles first t f (bit m.markers i) e h k w (v.sound i inside).1 (object_free z) (low_free low) (high_free high) (ap (λ n. n / 2 ^ 32) (sym (came_is b m s v i inside)) ∙ counts) (v.sound i inside).0 in
+        let step = link_inside handles first t f (marker_bit m i) e h k w (v.sound i inside).1 (object_free z) (low_free low) (high_free high) (ap (λ n. n / 2 ^ 32) (sym (came_is b m s v i inside)) ∙ counts) (v.sound i inside).0 in
         let number = put.number ∙ is in
-        let same_m = ap (λ l. bit l i) markers in
-        let same_h = ap (λ l. bit l (2 * i)) handles_same in
-        let same_k = ap (λ l. bit l (2 * i + 1)) handles_same in
+        let same_m = markers i in
+        let same_h = handles_same (2 * i) in
+        let same_k = handles_same (2 * i + 1) in
         record {
           came = came_same b c m r i enveloped inside (five came_word same_m here same_h same_k number ∙ step.came) ∙ ap (λ (s : Written). s.came) v.is;
           objects_are = objects_same b c m r i enveloped inside (three object_cell same_m here number ∙ step.object) ∙ ap (λ (s : Written). s.objects) v.is;

@@ -3,8 +3,7 @@ use Rattle.std.proofs.Common.{◌≡◌, ℕ, zero, suc, ◌+◌, ◌-◌, ◌*�
 use Rattle.std.specs.List.{range_with_len}
 use Rattle.std.proofs.lemmas.List.Sums.{sum-map}
 use Rattle.std.proofs.lemmas.List.FromFn.{sum_by-map-range_with_len_more}
-use Rattle.fidl_links.specs.Marks.{Marks}
-use Rattle.fidl_links.specs.Bits.{bit}
+use Rattle.fidl_links.specs.Marks.{Marks, marker_bit, envelope_bit, handle_bit}
 use Rattle.fidl_links.specs.Words.{word, words_of}
 use Rattle.fidl_links.specs.Coding.{envelope_object, envelope_low, first_of, object_cell, low_handle, high_handle, low_cell, high_cell, IsMarked, EnvelopeSound, IsSound, filled, envelope_links, word_links}
 use Rattle.fidl_links.specs.Links.{Written, places_at, places, links_at, written, AreSound}
@@ -57,8 +56,8 @@ pub links_at_are : (b : List ℕ) (m : Marks) → AreSound b m → (i : ℕ) →
 links_at_are b m sound i h =
     let v : Seen b m (written b m) = record { is = refl; sound = sound } in
     links_are_places _ _ _ _ (word b i) (sound i h).1
-    ∙ ap (λ n. filled n + filled (object_cell (bit m.markers i) (bit m.envelopes i) (word b i) + high_cell (bit m.markers i) (bit m.envelopes i) (bit m.handles (2 * i + 1)) (word b i))) (sym (low_is b m _ v i h))
-    ∙ ap (λ n. filled (slice_index (written b m).records (2 * i)) + filled (n + high_cell (bit m.markers i) (bit m.envelopes i) (bit m.handles (2 * i + 1)) (word b i))) (sym (object_is b m _ v i h))
+    ∙ ap (λ n. filled n + filled (object_cell (marker_bit m i) (envelope_bit m i) (word b i) + high_cell (marker_bit m i) (envelope_bit m i) (handle_bit m (2 * i + 1)) (word b i))) (sym (low_is b m _ v i h))
+    ∙ ap (λ n. filled (slice_index (written b m).records (2 * i)) + filled (n + high_cell (marker_bit m i) (envelope_bit m i) (handle_bit m (2 * i + 1)) (word b i))) (sym (object_is b m _ v i h))
     ∙ ap (λ n. filled (slice_index (written b m).records (2 * i)) + filled (slice_index (written b m).objects i + n)) (sym (high_is b m _ v i h))
 
 -- how many places of the first words hold a link
@@ -145,7 +144,7 @@ module _ (b : List ℕ) (m : Marks) (sound : AreSound b m) (i : ℕ) where
       let zero_here = sym (links_at_are b m sound (i + n) (omega (arith, le))) ∙ none n (omega arith) in
       omega (arith, before_next n, none_up n (omega (arith, le)) (λ k lt. none k (omega (arith, lt))), zero_here)
 
-  pub places_past : (j : ℕ) → i ≤ j → j ≤ words_of b → ((q : ℕ) → i ≤ q → q < j → IsFree (bit m.markers q) (bit m.envelopes q) (bit m.handles (2 * q)) (bit m.handles (2 * q + 1)))
+  pub places_past : (j : ℕ) → i ≤ j → j ≤ words_of b → ((q : ℕ) → i ≤ q → q < j → IsFree (marker_bit m q) (envelope_bit m q) (handle_bit m (2 * q)) (handle_bit m (2 * q + 1)))
       → places_before (written b m) j ≡ places_before (written b m) i
   places_past j from le free =
       let at : i + (j - i) ≡ j = omega (arith, from) in

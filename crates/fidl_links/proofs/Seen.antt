@@ -1,8 +1,7 @@
 -- A message that is seen with its links, and the cells of its words.
 use Rattle.std.proofs.Common.{◌≡◌, ℕ, ◌+◌, ◌-◌, ◌*◌, ◌/◌, ◌%◌, ◌<◌, List, length, slice_index, sym, ap, subst, ◌∙◌, arith}
 use Rattle.std.proofs.lemmas.List.FromFn.{length-map-range_with_len, get_or-map-range_with_len}
-use Rattle.fidl_links.specs.Marks.{Marks}
-use Rattle.fidl_links.specs.Bits.{bit}
+use Rattle.fidl_links.specs.Marks.{Marks, marker_bit, envelope_bit, handle_bit}
 use Rattle.fidl_links.specs.Words.{word, words_of}
 use Rattle.fidl_links.specs.Coding.{record_cell, low_cell, high_cell}
 use Rattle.fidl_links.specs.Links.{Written, came_at, object_of, record_of, came_byte, written}
@@ -13,19 +12,19 @@ use Rattle.fidl_links.proofs.TakenOut.{byte_in}
 use Rattle.fidl_links.proofs.Came.{word_came}
 
 -- the cells of a word's halves
-pub low_of : (b : List ℕ) (m : Marks) (i : ℕ) → record_of b m (2 * i) ≡ low_cell (bit m.markers i) (bit m.envelopes i) (bit m.handles (2 * i)) (word b i)
+pub low_of : (b : List ℕ) (m : Marks) (i : ℕ) → record_of b m (2 * i) ≡ low_cell (marker_bit m i) (envelope_bit m i) (handle_bit m (2 * i)) (word b i)
 low_of b m i =
     let half : 2 * i / 2 ≡ i = omega arith in
     let even : 2 * i % 2 ≡ 0 = omega arith in
-    ap (λ n. record_cell n (bit m.markers (2 * i / 2)) (bit m.envelopes (2 * i / 2)) (bit m.handles (2 * i)) (word b (2 * i / 2))) even
-    ∙ ap (λ n. low_cell (bit m.markers n) (bit m.envelopes n) (bit m.handles (2 * i)) (word b n)) half
+    ap (λ n. record_cell n (marker_bit m (2 * i / 2)) (envelope_bit m (2 * i / 2)) (handle_bit m (2 * i)) (word b (2 * i / 2))) even
+    ∙ ap (λ n. low_cell (marker_bit m n) (envelope_bit m n) (handle_bit m (2 * i)) (word b n)) half
 
-pub high_of : (b : List ℕ) (m : Marks) (i : ℕ) → record_of b m (2 * i + 1) ≡ high_cell (bit m.markers i) (bit m.envelopes i) (bit m.handles (2 * i + 1)) (word b i)
+pub high_of : (b : List ℕ) (m : Marks) (i : ℕ) → record_of b m (2 * i + 1) ≡ high_cell (marker_bit m i) (envelope_bit m i) (handle_bit m (2 * i + 1)) (word b i)
 high_of b m i =
     let half : (2 * i + 1) / 2 ≡ i = omega arith in
     let odd : (2 * i + 1) % 2 ≡ 1 = omega arith in
-    ap (λ n. record_cell n (bit m.markers ((2 * i + 1) / 2)) (bit m.envelopes ((2 * i + 1) / 2)) (bit m.handles (2 * i + 1)) (word b ((2 * i + 1) / 2))) odd
-    ∙ ap (λ n. high_cell (bit m.markers n) (bit m.envelopes n) (bit m.handles (2 * i + 1)) (word b n)) half
+    ap (λ n. record_cell n (marker_bit m ((2 * i + 1) / 2)) (envelope_bit m ((2 * i + 1) / 2)) (handle_bit m (2 * i + 1)) (word b ((2 * i + 1) / 2))) odd
+    ∙ ap (λ n. high_cell (marker_bit m n) (envelope_bit m n) (handle_bit m (2 * i + 1)) (word b n)) half
 
 -- there are as many cells as words, and twice as many of halves
 pub objects_long : (b : List ℕ) (m : Marks) → length (written b m).objects ≡ words_of b
@@ -60,10 +59,10 @@ module _ (b : List ℕ) (m : Marks) (s : Written) (v : Seen b m s) where
   unfolding written
   record_is j h = ap (λ (s : Written). slice_index s.records j) (sym v.is) ∙ get_or-map-range_with_len (record_of b m) 0 (2 * words_of b) j j 0 h (omega arith)
 
-  pub low_is : (i : ℕ) → i < words_of b → slice_index s.records (2 * i) ≡ low_cell (bit m.markers i) (bit m.envelopes i) (bit m.handles (2 * i)) (word b i)
+  pub low_is : (i : ℕ) → i < words_of b → slice_index s.records (2 * i) ≡ low_cell (marker_bit m i) (envelope_bit m i) (handle_bit m (2 * i)) (word b i)
   low_is i h = record_is (2 * i) (omega (arith, h)) ∙ low_of b m i
 
-  pub high_is : (i : ℕ) → i < words_of b → slice_index s.records (2 * i + 1) ≡ high_cell (bit m.markers i) (bit m.envelopes i) (bit m.handles (2 * i + 1)) (word b i)
+  pub high_is : (i : ℕ) → i < words_of b → slice_index s.records (2 * i + 1) ≡ high_cell (marker_bit m i) (envelope_bit m i) (handle_bit m (2 * i + 1)) (word b i)
   high_is i h = record_is (2 * i + 1) (omega (arith, h)) ∙ high_of b m i
 
   pub objects_count : length s.objects ≡ words_of b

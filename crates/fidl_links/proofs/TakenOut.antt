@@ -7,8 +7,7 @@ use Rattle.std.proofs.lemmas.Nat.{le_bytes_8}
 use Rattle.std.proofs.lemmas.List.{same_lists, get_or_default, get_or_past}
 use Rattle.std.proofs.lemmas.List.Edits.{get_or-between, length-between}
 use Rattle.std.proofs.lemmas.List.FromFn.{length-map-range_with_len, get_or-map-range_with_len}
-use Rattle.fidl_links.specs.Marks.{Marks}
-use Rattle.fidl_links.specs.Bits.{bit}
+use Rattle.fidl_links.specs.Marks.{Marks, marker_bit, envelope_bit, handle_bit}
 use Rattle.fidl_links.specs.Words.{word, words_of}
 use Rattle.fidl_links.specs.Coding.{came_word, word_links, object_cell, record_cell, IsSound}
 use Rattle.fidl_links.specs.Links.{came_at, links_at, object_of, record_of, came_byte, written}
@@ -62,10 +61,10 @@ module _ (b : List ℕ) (m : Marks) (from i : ℕ) (now : List ℕ) (r : Restore
   same_word j le within = word_alike now b j (part_alike now b (8 * j) (8 * j + 8) r.len (omega (arith, within)) (λ k ge lt. r.behind k (omega (arith, ge, le))))
 
   pub same_came : (j : ℕ) → i ≤ j → j < words_of b → came_at now m j ≡ came_at b m j
-  same_came j le within = ap (λ w. came_word (bit m.markers j) (bit m.envelopes j) (bit m.handles (2 * j)) (bit m.handles (2 * j + 1)) w) (same_word j le within)
+  same_came j le within = ap (λ w. came_word (marker_bit m j) (envelope_bit m j) (handle_bit m (2 * j)) (handle_bit m (2 * j + 1)) w) (same_word j le within)
 
   pub same_links : (j : ℕ) → i ≤ j → j < words_of b → links_at now m j ≡ links_at b m j
-  same_links j le within = ap (λ w. word_links (bit m.markers j) (bit m.envelopes j) (bit m.handles (2 * j)) (bit m.handles (2 * j + 1)) w) (same_word j le within)
+  same_links j le within = ap (λ w. word_links (marker_bit m j) (envelope_bit m j) (handle_bit m (2 * j)) (handle_bit m (2 * j + 1)) w) (same_word j le within)
 
   split : (j k : ℕ) → k < 8 * j → (k < 8 * i) ⊎ ((8 * i ≤ k) × (k < 8 * j))
   split j k lt = grind (arith, lt)
@@ -123,7 +122,7 @@ word_fits b i room each =
 
 -- a byte of a word that is not marked came as it stands
 free_word_byte : (b : List ℕ) (m : Marks) (octets : (k : ℕ) → slice_index b k < 256) (k : ℕ) → k < 8 * words_of b
-    → IsFree (bit m.markers (k / 8)) (bit m.envelopes (k / 8)) (bit m.handles (2 * (k / 8))) (bit m.handles (2 * (k / 8) + 1)) → came_byte b m k ≡ slice_index b k
+    → IsFree (marker_bit m (k / 8)) (envelope_bit m (k / 8)) (handle_bit m (2 * (k / 8))) (handle_bit m (2 * (k / 8) + 1)) → came_byte b m k ≡ slice_index b k
 free_word_byte b m octets k lt free =
     let i = k / 8 in
     let h : i < words_of b = omega (arith, lt) in
@@ -137,7 +136,7 @@ free_word_byte b m octets k lt free =
 
 -- words that are not marked are passed
 pub restored_past : (b : List ℕ) (m : Marks) (octets : (k : ℕ) → slice_index b k < 256) (from i j : ℕ) (now : List ℕ) → Restored b m from i now → i ≤ j → j ≤ words_of b
-    → ((q : ℕ) → i ≤ q → q < j → IsFree (bit m.markers q) (bit m.envelopes q) (bit m.handles (2 * q)) (bit m.handles (2 * q + 1))) → Restored b m from j now
+    → ((q : ℕ) → i ≤ q → q < j → IsFree (marker_bit m q) (envelope_bit m q) (handle_bit m (2 * q)) (handle_bit m (2 * q + 1))) → Restored b m from j now
 restored_past b m octets from i j now r le within free = record {
   len = r.len;
   came = λ k ge lt. elim (split k lt) [
@@ -152,13 +151,13 @@ restored_past b m octets from i j now r le within free = record {
     split k lt = grind (arith, lt)
 
 module _ (b : List ℕ) (m : Marks) (octets : (k : ℕ) → slice_index b k < 256)
-    (markers : (i : ℕ) → i < words_of b → bit m.markers i ≡ 0) (envelopes : (i : ℕ) → i < words_of b → bit m.envelopes i ≡ 0) (handles : (j : ℕ) → j < 2 * words_of b → bit m.handles j ≡ 0) where
+    (markers : (i : ℕ) → i < words_of b → marker_bit m i ≡ 0) (envelopes : (i : ℕ) → i < words_of b → envelope_bit m i ≡ 0) (handles : (j : ℕ) → j < 2 * words_of b → handle_bit m j ≡ 0) where
   pub clear_sound : AreSound b m
   clear_sound i h = (
     word_fits b i (omega (arith, h)) octets,
-    subst (λ n. IsSound n (bit m.envelopes i) (bit m.handles (2 * i)) (bit m.handles (2 * i + 1)) (word b i)) (sym (markers i h))
-        (subst (λ n. IsSound 0 n (bit m.handles (2 * i)) (bit m.handles (2 * i + 1)) (word b i)) (sym (envelopes i h))
-        (subst (λ n. IsSound 0 0 n (bit m.handles (2 * i + 1)) (word b i)) (sym (handles (2 * i) (omega (arith, h))))
+    subst (λ n. IsSound n (envelope_bit m i) (handle_bit m (2 * i)) (handle_bit m (2 * i + 1)) (word b i)) (sym (markers i h))
+        (subst (λ n. IsSound 0 n (handle_bit m (2 * i)) (handle_bit m (2 * i + 1)) (word b i)) (sym (envelopes i h))
+        (subst (λ n. IsSound 0 0 n (handle_bit m (2 * i + 1)) (word b i)) (sym (handles (2 * i) (omega (arith, h))))
         (subst (λ n. IsSound 0 0 0 n (word b i)) (sym (handles (2 * i + 1) (omega (arith, h)))) (tt, tt)))),
   )
 
@@ -182,7 +181,7 @@ module _ (b : List ℕ) (m : Marks) (octets : (k : ℕ) → slice_index b k < 25
   pub clear_objects : (i : ℕ) → slice_index (written b m).objects i ≡ 0
   unfolding written
   clear_objects i = elim (split i) [
-    | inl x ↦ get_or-map-range_with_len (object_of b m) 0 (words_of b) i i 0 x (omega arith) ∙ ap (λ n. object_cell n (bit m.envelopes i) (word b i)) (markers i x) ∙ ap (λ n. object_cell 0 n (word b i)) (envelopes i x)
+    | inl x ↦ get_or-map-range_with_len (object_of b m) 0 (words_of b) i i 0 x (omega arith) ∙ ap (λ n. object_cell n (envelope_bit m i) (word b i)) (markers i x) ∙ ap (λ n. object_cell 0 n (word b i)) (envelopes i x)
     | inr y ↦ get_or_past (map (object_of b m) (range_with_len 0 (words_of b))) i 0 (omega (arith, y, length-map-range_with_len (object_of b m) 0 (words_of b)))
   ]
     where
@@ -193,8 +192,8 @@ module _ (b : List ℕ) (m : Marks) (octets : (k : ℕ) → slice_index b k < 25
   unfolding written
   clear_records j = elim (split j) [
     | inl x ↦ get_or-map-range_with_len (record_of b m) 0 (2 * words_of b) j j 0 x (omega arith)
-        ∙ ap (λ n. record_cell (j % 2) n (bit m.envelopes (j / 2)) (bit m.handles j) (word b (j / 2))) (markers (j / 2) (omega (arith, x)))
-        ∙ ap (λ n. record_cell (j % 2) 0 n (bit m.handles j) (word b (j / 2))) (envelopes (j / 2) (omega (arith, x)))
+        ∙ ap (λ n. record_cell (j % 2) n (envelope_bit m (j / 2)) (handle_bit m j) (word b (j / 2))) (markers (j / 2) (omega (arith, x)))
+        ∙ ap (λ n. record_cell (j % 2) 0 n (handle_bit m j) (word b (j / 2))) (envelopes (j / 2) (omega (arith, x)))
         ∙ ap (λ n. record_cell (j % 2) 0 0 n (word b (j / 2))) (handles j x)
         ∙ none (j % 2)
     | inr y ↦ get_or_past (map (record_of b m) (range_with_len 0 (2 * words_of b))) j 0 (omega (arith, y, length-map-range_with_len (record_of b m) 0 (2 * words_of b)))

@@ -1,10 +1,10 @@
--- Bit maps: lists of numbers of 64 bits, the lowest bit first.
-use Rattle.std.specs.Prelude.{ℕ, ◌/◌, ◌%◌, Bool, true, false, List, get_or}
+-- Bits of a list of bytes.
+use Rattle.std.specs.Prelude.{ℕ, Bool, true, false, List, get_or}
 use Rattle.std.specs.Int.{bit_at}
 
--- the bit with this number: 0 or 1
-abbrev pub bit : List ℕ → (k : ℕ) → ℕ
-bit map k = bit_at (get_or map (k / 64) 0) (k % 64)
+-- the bit with the number b, the lowest first, of the byte with the number i: 0 or 1
+abbrev pub bit : List ℕ → (i b : ℕ) → ℕ
+bit bytes i b = bit_at (get_or bytes i 0) b
 
 -- a test as a bit
 abbrev pub flag : Bool → ℕ

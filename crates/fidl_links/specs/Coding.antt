@@ -1,4 +1,4 @@
--- What a word of a message says, by the bits of the room at it: whether it holds a marker's link,
+-- What a word of a message says, by the bits of its mark: whether it holds a marker's link,
 -- an envelope's, and whether its halves hold handles' links.
 use Rattle.std.specs.Prelude.{◌<◌, ◌≤◌, ℕ, zero, suc, ◌+◌, ◌-◌, ◌*◌, ◌/◌, ◌%◌, ◌^◌}
 

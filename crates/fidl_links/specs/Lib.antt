@@ -1,7 +1,7 @@
 -- A message in whose bytes links stand, in the order in which to read the definitions:
---   Bits, Words   bit maps, and the words of a message
+--   Bits, Words   bits of bytes, and the words of a message
 --   Coding        what a word says of the word that came, and of the link in it
---   Marks         which places hold links
+--   Marks         which words hold links
 --   Links         a message as it came, and its links
 --   Samples       the messages of the worked facts
 pub mod Bits

@@ -3,11 +3,10 @@ use Rattle.std.specs.Prelude.{◌≡◌, ℕ, ◌+◌, ◌*◌, ◌/◌, ◌%◌
 use Rattle.std.specs.Prelude.{nat_lt, slice_index}
 use Rattle.std.specs.List.{range_with_len, sum_by}
 use Rattle.std.specs.Int.{to_le_bytes, w64}
-use Rattle.fidl_links.specs.Bits.{bit}
 use Rattle.fidl_links.specs.Words.{word, words_of}
 use Rattle.fidl_links.specs.Coding.{came_word, object_cell, record_cell, IsSound}
 use Rattle.fidl_links.specs.Coding.{filled, word_links}
-use Rattle.fidl_links.specs.Marks.{Marks}
+use Rattle.fidl_links.specs.Marks.{Marks, marker_bit, envelope_bit, handle_bit}
 
 -- what a message with links is seen as: the message as it came; for each eight bytes where the
 -- object of the marker or envelope there begins, 0 where none is linked; for each four one more
@@ -47,26 +46,26 @@ places_at m i =
 unfoldable pub places : Written → ℕ
 places m = sum_by (places_at m) (range_with_len 0 (length m.objects))
 
--- the word with this number as it came, of the bytes that stand and the maps
+-- the word with this number as it came, of the bytes that stand and the marks
 abbrev pub came_at : List ℕ → Marks → (i : ℕ) → ℕ
 came_at bytes m i =
-    came_word (bit m.markers i) (bit m.envelopes i) (bit m.handles (2 * i))
-    (bit m.handles (2 * i + 1)) (word bytes i)
+    came_word (marker_bit m i) (envelope_bit m i) (handle_bit m (2 * i))
+    (handle_bit m (2 * i + 1)) (word bytes i)
 
 -- how many links it holds
 abbrev pub links_at : List ℕ → Marks → (i : ℕ) → ℕ
 links_at bytes m i =
-    word_links (bit m.markers i) (bit m.envelopes i) (bit m.handles (2 * i))
-    (bit m.handles (2 * i + 1)) (word bytes i)
+    word_links (marker_bit m i) (envelope_bit m i) (handle_bit m (2 * i))
+    (handle_bit m (2 * i + 1)) (word bytes i)
 
 -- where its object begins
 abbrev pub object_of : List ℕ → Marks → (i : ℕ) → ℕ
-object_of bytes m i = object_cell (bit m.markers i) (bit m.envelopes i) (word bytes i)
+object_of bytes m i = object_cell (marker_bit m i) (envelope_bit m i) (word bytes i)
 
 -- one more than the record of the half with this number
 abbrev pub record_of : List ℕ → Marks → (j : ℕ) → ℕ
 record_of bytes m j =
-    record_cell (j % 2) (bit m.markers (j / 2)) (bit m.envelopes (j / 2)) (bit m.handles j)
+    record_cell (j % 2) (marker_bit m (j / 2)) (envelope_bit m (j / 2)) (handle_bit m j)
     (word bytes (j / 2))
 
 -- a byte as it came: behind the last whole word it is the byte that stands
@@ -87,8 +86,8 @@ written bytes m =
 -- the word with this number has 64 bits, and where it is marked it holds a link
 abbrev pub IsSoundAt : List ℕ → Marks → (i : ℕ) → Type 0
 IsSoundAt bytes m i = (word bytes i < 2 ^ 64)
-    × IsSound (bit m.markers i) (bit m.envelopes i) (bit m.handles (2 * i))
-    (bit m.handles (2 * i + 1)) (word bytes i)
+    × IsSound (marker_bit m i) (envelope_bit m i) (handle_bit m (2 * i))
+    (handle_bit m (2 * i + 1)) (word bytes i)
 
 abbrev pub AreSound : List ℕ → Marks → Type 0
 AreSound bytes m = (i : ℕ) → i < words_of bytes → IsSoundAt bytes m i

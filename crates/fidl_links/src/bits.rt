@@ -1,32 +1,34 @@
-//! Bit maps: 64 bits to a number, the lowest first.
-ghost use Rattle.std.specs.Prelude.{◌≡◌, ◌≢◌, ℕ, ◌*◌, ◌/◌, ◌<◌, ◌≤◌, length};
+//! Bits of a list of bytes.
+ghost use Rattle.std.specs.Prelude.{◌≡◌, ◌≢◌, ℕ, ◌⊎◌, ◌<◌, ◌≤◌, length};
 ghost use Rattle.fidl_links.specs.Bits.{bit, flag};
 
-/// Whether the bit with this number is set.
+/// Whether the bit with the number `which`, the lowest first, of the byte with the number `i` is set.
 #[inline(always)]
-pub(crate) fn has_bit(map: &[u64], k: usize) -> bool
-    requires { k / 64 < length map.now }
-    ensures { flag result ≡ bit map.now k }
+pub(crate) fn has_bit(bytes: &[u8], i: usize, which: u8) -> bool
+    requires within { i < length bytes.now }
+    requires eight { which < 8 }
+    ensures { flag result ≡ bit bytes.now i which }
 {
-    (map[k / 64] >> (k % 64)) & 1 == 1
+    (bytes[i] >> which) & 1 == 1
 }
 
 /// Sets it.
 #[inline(always)]
-pub(crate) fn set_bit(map: &mut [u64], k: usize)
-    requires { k / 64 < length map.old }
-    ensures len { length map.new ≡ length map.old }
-    ensures here { bit map.new k ≡ 1 }
-    ensures elsewhere { (j : ℕ) → j ≢ k → bit map.new j ≡ bit map.old j }
+pub(crate) fn set_bit(bytes: &mut [u8], i: usize, which: u8)
+    requires within { i < length bytes.old }
+    requires eight { which < 8 }
+    ensures len { length bytes.new ≡ length bytes.old }
+    ensures here { bit bytes.new i which ≡ 1 }
+    ensures elsewhere { (j b : ℕ) → (j ≢ i) ⊎ (b ≢ which) → bit bytes.new j b ≡ bit bytes.old j b }
 {
-    map[k / 64] |= 1 << (k % 64);
+    bytes[i] |= 1 << which;
 }
 
-/// Clears the bits of the first so many numbers.
-pub(crate) fn clear(map: &mut [u64], numbers: usize)
-    requires { numbers ≤ length map.old }
-    ensures len { length map.new ≡ length map.old }
-    ensures clear { (k : ℕ) → k < 64 * numbers → bit map.new k ≡ 0 }
+/// Clears all bits of the first so many bytes.
+pub(crate) fn clear(bytes: &mut [u8], count: usize)
+    requires { count ≤ length bytes.old }
+    ensures len { length bytes.new ≡ length bytes.old }
+    ensures clear { (i b : ℕ) → i < count → bit bytes.new i b ≡ 0 }
 {
-    map[..numbers].fill(0);
+    bytes[..count].fill(0);
 }

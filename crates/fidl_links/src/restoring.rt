@@ -99,7 +99,7 @@ fn take_out_of(bytes: &mut [u8], room: &Room, from: usize, to: usize) -> u64
     links
 }
 
-/// Takes all links out of a message, and counts them. Where no word of 64 is marked, all of them
+/// Takes all links out of a message, and counts them. Where no word of eight is marked, all of them
 /// are passed at once.
 fn take_links_out(bytes: &mut [u8], room: &Room) -> u64
     requires few { length bytes.old ≤ MAX_MESSAGE_BYTES }
@@ -111,12 +111,12 @@ fn take_links_out(bytes: &mut [u8], room: &Room) -> u64
     are_octets(bytes);
     let words = bytes.len() / 8;
     let mut places = 0;
-    for n in 0..words.div_ceil(64) {
+    for n in 0..words.div_ceil(8) {
         if room.is_unmarked(n) {
             continue;
         }
-        let from = 64 * n;
-        places += take_out_of(bytes, room, from, words.min(from + 64));
+        let from = 8 * n;
+        places += take_out_of(bytes, room, from, words.min(from + 8));
     }
     places
 }

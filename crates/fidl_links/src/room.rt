@@ -1,22 +1,32 @@
 //! Room for the links of a message: at which places links stand.
-ghost use Rattle.std.specs.Prelude.{◌≡◌, ◌≢◌, ℕ, ◌+◌, ◌*◌, ◌/◌, ◌<◌, ◌≤◌, ◌↔◌, slice_index};
-ghost use Rattle.std.specs.Prelude.{IfOk, IsTrue};
-ghost use Rattle.fidl_links.specs.Bits.{bit, flag};
+ghost use Rattle.std.specs.Prelude.{◌≡◌, ◌≢◌, ℕ, ◌*◌, ◌<◌, ◌≤◌, ◌↔◌, IfOk, IsTrue};
+ghost use Rattle.std.specs.Int.{w64};
+ghost use Rattle.fidl_wire.specs.Field.{number_at};
+ghost use Rattle.fidl_links.specs.Bits.{flag};
+ghost use Rattle.fidl_links.specs.Marks.{marker_bit, envelope_bit, handle_bit};
 ghost use Rattle.fidl_limits.specs.declared.limits.TheConstants.{MAX_MESSAGE_BYTES};
 
 use crate::bits::{clear, has_bit, set_bit};
 use fidl_limits::MAX_MESSAGE_BYTES;
+use fidl_wire::u64_at;
 use std::alloc::{AllocError, Global};
 use std::marker::Model;
 
-/// Room for the links of one message at a time. For each eight bytes a bit says whether a marker's
-/// link stands there, and another whether an envelope's does. For each four bytes a bit says
-/// whether a handle's does. The room keeps how many steps the last message took.
+/// The bit of a word's byte that says whether a marker's link stands in the word.
+const MARKER: u8 = 0;
+
+/// The one that says whether an envelope's does.
+const ENVELOPE: u8 = 1;
+
+/// The one that says whether a handle's link stands in the lower half of the word. The next one is
+/// that of the upper half.
+const HANDLE: u8 = 2;
+
+/// Room for the links of one message at a time. It has a byte for each eight bytes of the message,
+/// whose bits say which links stand there. It keeps how many steps the last message took.
 #[derive(Drop)]
 pub struct Room {
-    markers: Vec<u64>,
-    envelopes: Vec<u64>,
-    handles: Vec<u64>,
+    marks: Vec<u8>,
     steps: u64,
 }
 
@@ -27,34 +37,18 @@ impl Model for Room {
 
     ghost Value = { Kept };
 
-    ghost view = { λ r. record {
-      marks = record {
-        markers = r.markers.items;
-        envelopes = r.envelopes.items;
-        handles = r.handles.items;
-      };
-      steps = r.steps;
-    } };
+    ghost view = { λ r. record { marks = r.marks.items; steps = r.steps } };
 
-    ghost invariant = { λ r. (length r.markers.items ≡ MAX_MESSAGE_BYTES / 512)
-        × (length r.envelopes.items ≡ MAX_MESSAGE_BYTES / 512)
-        × (length r.handles.items ≡ MAX_MESSAGE_BYTES / 256) };
+    ghost invariant = { λ r. length r.marks.items ≡ MAX_MESSAGE_BYTES / 8 };
 }
 
 impl Room {
-    /// Allocates the bits. An error says that memory ran out.
+    /// Allocates the bytes. An error says that memory ran out.
     pub fn new(alloc: Global) -> Result<Room, AllocError>
         ensures { IfOk result (λ r. r.steps ≡ 0) }
     {
-        let markers = vec![in alloc; 0; MAX_MESSAGE_BYTES / 512]?;
-        let envelopes = vec![in alloc; 0; MAX_MESSAGE_BYTES / 512]?;
-        let handles = vec![in alloc; 0; MAX_MESSAGE_BYTES / 256]?;
-        Ok(Room {
-            markers,
-            envelopes,
-            handles,
-            steps: 0,
-        })
+        let marks = vec![in alloc; 0; MAX_MESSAGE_BYTES / 8]?;
+        Ok(Room { marks, steps: 0 })
     }
 
     /// How many steps the last message took.
@@ -76,92 +70,87 @@ impl Room {
     #[inline(always)]
     pub(crate) fn has_marker(&self, i: usize) -> bool
         requires { 8 * i < MAX_MESSAGE_BYTES }
-        ensures { flag result ≡ bit self.now.marks.markers i }
+        ensures { flag result ≡ marker_bit self.now.marks i }
     {
-        has_bit(&self.markers, i)
+        has_bit(&self.marks, i, MARKER)
     }
 
     /// Whether it holds an envelope's link.
     #[inline(always)]
     pub(crate) fn has_envelope(&self, i: usize) -> bool
         requires { 8 * i < MAX_MESSAGE_BYTES }
-        ensures { flag result ≡ bit self.now.marks.envelopes i }
+        ensures { flag result ≡ envelope_bit self.now.marks i }
     {
-        has_bit(&self.envelopes, i)
+        has_bit(&self.marks, i, ENVELOPE)
     }
 
     /// Whether the half of a word with this number holds a handle's link.
     #[inline(always)]
     pub(crate) fn has_handle(&self, j: usize) -> bool
         requires { 4 * j < MAX_MESSAGE_BYTES }
-        ensures { flag result ≡ bit self.now.marks.handles j }
+        ensures { flag result ≡ handle_bit self.now.marks j }
     {
-        has_bit(&self.handles, j)
+        has_bit(&self.marks, j / 2, HANDLE + (j % 2) as u8)
     }
 
-    /// Whether no link stands in the 64 words whose bits are the numbers with this index: one of
-    /// markers, one of envelopes and two of handles.
+    /// Whether no link stands in the eight words from the one with the number `8 * n` on. Their bytes
+    /// are looked at as one number.
     #[inline(always)]
     pub(crate) fn is_unmarked(&self, n: usize) -> bool
-        requires { 512 * n < MAX_MESSAGE_BYTES }
-        ensures { IsTrue result ↔ (slice_index self.now.marks.markers n ≡ 0)
-            × (slice_index self.now.marks.envelopes n ≡ 0)
-            × (slice_index self.now.marks.handles (2 * n) ≡ 0)
-            × (slice_index self.now.marks.handles (2 * n + 1) ≡ 0) }
+        requires { 64 * n < MAX_MESSAGE_BYTES }
+        ensures { IsTrue result ↔ number_at w64 self.now.marks (8 * n) ≡ 0 }
     {
-        let no_words = self.markers[n] == 0 && self.envelopes[n] == 0;
-        no_words && self.handles[2 * n] == 0 && self.handles[2 * n + 1] == 0
+        u64_at(&self.marks, 8 * n) == 0
     }
 
     /// A word holds a marker's link.
     #[inline(always)]
     pub(crate) fn mark_marker(&mut self, i: usize)
         requires { 8 * i < MAX_MESSAGE_BYTES }
-        ensures here { bit self.new.marks.markers i ≡ 1 }
+        ensures here { marker_bit self.new.marks i ≡ 1 }
         ensures elsewhere { (j : ℕ) → j ≢ i
-            → bit self.new.marks.markers j ≡ bit self.old.marks.markers j }
-        ensures envelopes { self.new.marks.envelopes ≡ self.old.marks.envelopes }
-        ensures handles { self.new.marks.handles ≡ self.old.marks.handles }
+            → marker_bit self.new.marks j ≡ marker_bit self.old.marks j }
+        ensures envelopes { (j : ℕ) → envelope_bit self.new.marks j
+            ≡ envelope_bit self.old.marks j }
+        ensures handles { (j : ℕ) → handle_bit self.new.marks j ≡ handle_bit self.old.marks j }
     {
-        set_bit(&mut self.markers, i);
+        set_bit(&mut self.marks, i, MARKER);
     }
 
     /// A word holds an envelope's link.
     #[inline(always)]
     pub(crate) fn mark_envelope(&mut self, i: usize)
         requires { 8 * i < MAX_MESSAGE_BYTES }
-        ensures here { bit self.new.marks.envelopes i ≡ 1 }
+        ensures here { envelope_bit self.new.marks i ≡ 1 }
         ensures elsewhere { (j : ℕ) → j ≢ i
-            → bit self.new.marks.envelopes j ≡ bit self.old.marks.envelopes j }
-        ensures markers { self.new.marks.markers ≡ self.old.marks.markers }
-        ensures handles { self.new.marks.handles ≡ self.old.marks.handles }
+            → envelope_bit self.new.marks j ≡ envelope_bit self.old.marks j }
+        ensures markers { (j : ℕ) → marker_bit self.new.marks j ≡ marker_bit self.old.marks j }
+        ensures handles { (j : ℕ) → handle_bit self.new.marks j ≡ handle_bit self.old.marks j }
     {
-        set_bit(&mut self.envelopes, i);
+        set_bit(&mut self.marks, i, ENVELOPE);
     }
 
     /// A half of a word holds a handle's link.
     #[inline(always)]
     pub(crate) fn mark_handle(&mut self, j: usize)
         requires { 4 * j < MAX_MESSAGE_BYTES }
-        ensures here { bit self.new.marks.handles j ≡ 1 }
+        ensures here { handle_bit self.new.marks j ≡ 1 }
         ensures elsewhere { (k : ℕ) → k ≢ j
-            → bit self.new.marks.handles k ≡ bit self.old.marks.handles k }
-        ensures markers { self.new.marks.markers ≡ self.old.marks.markers }
-        ensures envelopes { self.new.marks.envelopes ≡ self.old.marks.envelopes }
+            → handle_bit self.new.marks k ≡ handle_bit self.old.marks k }
+        ensures markers { (i : ℕ) → marker_bit self.new.marks i ≡ marker_bit self.old.marks i }
+        ensures envelopes { (i : ℕ) → envelope_bit self.new.marks i
+            ≡ envelope_bit self.old.marks i }
     {
-        set_bit(&mut self.handles, j);
+        set_bit(&mut self.marks, j / 2, HANDLE + (j % 2) as u8);
     }
 
-    /// Clears what so many words of a message need of the bits.
+    /// Clears the bytes of so many words.
     pub(crate) fn clear(&mut self, words: usize)
         requires { 8 * words ≤ MAX_MESSAGE_BYTES }
-        ensures markers { (i : ℕ) → i < words → bit self.new.marks.markers i ≡ 0 }
-        ensures envelopes { (i : ℕ) → i < words → bit self.new.marks.envelopes i ≡ 0 }
-        ensures handles { (j : ℕ) → j < 2 * words → bit self.new.marks.handles j ≡ 0 }
+        ensures markers { (i : ℕ) → i < words → marker_bit self.new.marks i ≡ 0 }
+        ensures envelopes { (i : ℕ) → i < words → envelope_bit self.new.marks i ≡ 0 }
+        ensures handles { (j : ℕ) → j < 2 * words → handle_bit self.new.marks j ≡ 0 }
     {
-        let numbers = words.div_ceil(64);
-        clear(&mut self.markers, numbers);
-        clear(&mut self.envelopes, numbers);
-        clear(&mut self.handles, 2 * numbers);
+        clear(&mut self.marks, words);
     }
 }

@@ -5,15 +5,31 @@ ghost use Rattle.std.specs.Prelude.{◌≡◌, ◌+◌, ◌-◌, ◌^◌, [], �
 ghost use Rattle.fidl_wire.specs.Encoding.{zeros, present};
 ghost use Rattle.fidl_links.specs.Bits.{bit};
 ghost use Rattle.fidl_links.specs.Coding.{came_word, object_cell, out_of_line, inline, IsSound};
+ghost use Rattle.fidl_links.specs.Marks.{marker_bit, envelope_bit, handle_bit};
 ghost use Rattle.fidl_links.specs.Links.{written, places, IsFree, IsFreeWord, AreSound};
 ghost use Rattle.fidl_links.specs.Samples.{marks, seen};
 ghost use Rattle.fidl_links.specs.Words.{AreOctets, word, words_of, Put};
 
-/// Of the number 5 the bits 0 and 2 are set. Bit 64 is the first of the second number.
-pub fn bits_of_a_map()
-    ensures set { bit (5 ∷ []) 2 ≡ 1 }
-    ensures clear { bit (5 ∷ []) 1 ≡ 0 }
-    ensures second { bit (0 ∷ 1 ∷ []) 64 ≡ 1 }
+/// Of the byte 5 the bits 0 and 2 are set. Behind the last byte no bit is.
+pub fn bits_of_bytes()
+    ensures set { bit (5 ∷ []) 0 2 ≡ 1 }
+    ensures clear { bit (5 ∷ []) 0 1 ≡ 0 }
+    ensures second { bit (0 ∷ 1 ∷ []) 1 0 ≡ 1 }
+    ensures behind { bit (1 ∷ []) 1 0 ≡ 0 }
+{}
+
+/// The second word holds a marker's link where its byte is 1, an envelope's where it is 2, and a
+/// handle's in its lower half where it is 4 and in its upper half where it is 8. None of these is
+/// set with the others.
+pub fn marks_of_a_word()
+    ensures marker { marker_bit (0 ∷ 1 ∷ []) 1 ≡ 1 }
+    ensures no_marker { marker_bit (1 ∷ 14 ∷ []) 1 ≡ 0 }
+    ensures envelope { envelope_bit (0 ∷ 2 ∷ []) 1 ≡ 1 }
+    ensures no_envelope { envelope_bit (2 ∷ 13 ∷ []) 1 ≡ 0 }
+    ensures lower { handle_bit (0 ∷ 4 ∷ []) 2 ≡ 1 }
+    ensures no_lower { handle_bit (12 ∷ 11 ∷ []) 2 ≡ 0 }
+    ensures upper { handle_bit (0 ∷ 8 ∷ []) 3 ≡ 1 }
+    ensures no_upper { handle_bit (12 ∷ 7 ∷ []) 3 ≡ 0 }
 {}
 
 /// Of fifteen bytes eight are a whole word. The lowest byte of a word comes first. A byte is below

@@ -1,7 +1,7 @@
-use Rattle.std.proofs.Common.{◌≡◌, ℕ, ◌+◌, ◌*◌, ◌/◌, ◌<◌, ◌≤◌, min, length, refl, sym, ap, subst, ◌∙◌, arith}
-use Rattle.fidl_links.specs.Bits.{bit}
+use Rattle.std.proofs.Common.{◌≡◌, ℕ, ◌+◌, ◌*◌, ◌/◌, ◌%◌, ◌<◌, ◌≤◌, min, length, refl, sym, ap, subst, ◌∙◌, arith}
+use Rattle.fidl_links.specs.Marks.{marker_bit, envelope_bit, handle_bit}
 use Rattle.fidl_links.specs.Links.{written}
-use Rattle.fidl_links.proofs.BitMaps.{zero_bit, zero_bits}
+use Rattle.fidl_links.proofs.ByteBits.{zero_bits}
 use Rattle.fidl_links.proofs.Places.{places_before, places_then, places_past, few_before, all_places}
 use Rattle.fidl_links.proofs.Steps.{IsFree}
 use Rattle.fidl_links.proofs.TakenOut.{Restored, none_restored, restored_then, restored_past, restored_all}
@@ -19,16 +19,16 @@ loop-n-preserved-then-is_unmarked c =
     let b = c.args.bytes.now in
     let m = c.args.room.now.marks in
     let n = c.loop-n.n in
-    let i = min (length b / 8) (64 * n) in
-    let j = min (length b / 8) (64 * (n + 1)) in
+    let i = min (length b / 8) (8 * n) in
+    let j = min (length b / 8) (8 * (n + 1)) in
     let zero = c.if-is_unmarked.ensures.0 refl in
-    let free : (q : ℕ) → i ≤ q → q < j → IsFree (bit m.markers q) (bit m.envelopes q) (bit m.handles (2 * q)) (bit m.handles (2 * q + 1)) = λ q from to.
-    let at : q / 64 ≡ n = omega (arith, from, to) in
+    let free : (q : ℕ) → i ≤ q → q < j → IsFree (marker_bit m q) (envelope_bit m q) (handle_bit m (2 * q)) (handle_bit m (2 * q + 1)) = λ q from to.
+    let at : q / 8 ≡ n = omega (arith, from, to) in
     record {
-      marker = zero_bit m.markers n q zero.0 at;
-      envelope = zero_bit m.envelopes n q zero.1 at;
-      lower = zero_bits m.handles n (2 * q) zero.2 zero.3 (omega (arith, at));
-      upper = zero_bits m.handles n (2 * q + 1) zero.2 zero.3 (omega (arith, at));
+      marker = zero_bits m n q 0 zero at;
+      envelope = zero_bits m n q 1 zero at;
+      lower = zero_bits m n (2 * q / 2) (2 + 2 * q % 2) zero (omega (arith, at));
+      upper = zero_bits m n ((2 * q + 1) / 2) (2 + (2 * q + 1) % 2) zero (omega (arith, at));
     } in (
       restored_past b m c.are_octets.ensures 0 i j c.loop-n.bytes c.loop-n.invariant.0 (omega arith) (omega arith) free,
       c.loop-n.invariant.1 ∙ sym (places_past b m c.requires.sound i j (omega arith) (omega arith) free),
@@ -38,7 +38,7 @@ pub overflow_add-places : goal.overflow_add-places
 overflow_add-places c =
     let b = c.args.bytes.now in
     let m = c.args.room.now.marks in
-    let i = 64 * c.loop-n.n in
+    let i = 8 * c.loop-n.n in
     let j = c.min.result in
     let at : min (length b / 8) i ≡ i = omega arith in
     let r : Restored b m 0 i c.loop-n.bytes = subst (λ i. Restored b m 0 i c.loop-n.bytes) at c.loop-n.invariant.0 in
@@ -50,10 +50,10 @@ pub loop-n-preserved : goal.loop-n-preserved
 loop-n-preserved c =
     let b = c.args.bytes.now in
     let m = c.args.room.now.marks in
-    let i = 64 * c.loop-n.n in
+    let i = 8 * c.loop-n.n in
     let j = c.min.result in
     let at : min (length b / 8) i ≡ i = omega arith in
-    let up : j ≡ min (length b / 8) (64 * (c.loop-n.n + 1)) = omega arith in
+    let up : j ≡ min (length b / 8) (8 * (c.loop-n.n + 1)) = omega arith in
     let r : Restored b m 0 i c.loop-n.bytes = subst (λ i. Restored b m 0 i c.loop-n.bytes) at c.loop-n.invariant.0 in
     let out = c.take_out_of-places.ensures in
     let new = c.take_out_of-places.new.bytes in
@@ -67,7 +67,7 @@ pub returns-clause-came : goal.returns-clause-came
 returns-clause-came c = restored_all c.args.bytes.now c.args.room.now.marks _ c.loop-n.bytes c.loop-n.invariant.0 (omega arith)
 
 pub returns-clause-places : goal.returns-clause-places
-returns-clause-places c = c.loop-n.invariant.1 ∙ all_places c.args.bytes.now c.args.room.now.marks (min (length c.args.bytes.now / 8) (64 * c.loop-n.n)) (omega arith)
+returns-clause-places c = c.loop-n.invariant.1 ∙ all_places c.args.bytes.now c.args.room.now.marks (min (length c.args.bytes.now / 8) (8 * c.loop-n.n)) (omega arith)
 
 pub returns-clause-small : goal.returns-clause-small
-returns-clause-small c = omega (arith, c.loop-n.invariant.1, few_before (written c.args.bytes.now c.args.room.now.marks) (min (length c.args.bytes.now / 8) (64 * c.loop-n.n)), c.requires.few)
+returns-clause-small c = omega (arith, c.loop-n.invariant.1, few_before (written c.args.bytes.now c.args.room.now.marks) (min (length c.args.bytes.now / 8) (8 * c.loop-n.n)), c.requires.few)

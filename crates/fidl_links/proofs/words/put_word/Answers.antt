@@ -10,6 +10,7 @@ returns-clause-put c =
     record {
       len = search (rules, places);
       number = number_at_place _ c.args.place c.args.number c.requires.aligned (search (rules, overwrites)) c.ranges.number.fits;
-      words = λ j ne room. other_word _ c.args.bytes.now (c.args.place / 8) j (search (rules, places)) room ne (λ k lt. let below : k < c.args.place = omega (arith, lt, eights) in search (rules, places)) (λ k ge. let above : c.args.place + 8 ≤ k = omega (arith, ge, eights) in search (rules, places));
+      words = λ j ne room. other_word _ c.args.bytes.now (c.args.place / 8) j (search (rules, places)) room ne (λ k lt. let below : k < c.args.place = omega (arith, lt, eights) in search (rules, places))
+          (λ k ge. let above : c.args.place + 8 ≤ k = omega (arith, ge, eights) in search (rules, places));
       tail = λ k ge. let above : c.args.place + 8 ≤ k = omega (arith, ge, eights) in search (rules, places);
     }

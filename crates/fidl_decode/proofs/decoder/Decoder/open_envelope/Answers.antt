@@ -114,12 +114,9 @@ returns-then-pass_member-clause-fault_is_true c =
 
 pub enter_member-requires-clause-state : goal.enter_member-requires-clause-state
 enter_member-requires-clause-state c =
-    let t = c.args.self.now.table.now in
     let m = message c.args.self.now in
     let old = at_of c.args.state.now in
     let kept : at_of c.pass_member.new.state ≡ old = c.pass_member.ensures.kept c.if-pass_member.false in
-    let next : c.pass_member.new.state.next ≡ c.args.state.now.next = ap (λ (s : Position). s.next) kept in
-    let still : c.pass_member.new.state.steps ≡ c.args.state.now.steps = omega (arith, next, c.pass_member.ensures.grows, c.pass_member.ensures.pays) in
     subst (λ (s : Position). StateFine m s) (sym kept) c.requires.state
 
 pub returns-in_err-frame-clause-pays : goal.returns-in_err-frame-clause-pays
@@ -128,8 +125,6 @@ returns-in_err-frame-clause-pays c =
 
 pub returns-in_err-frame-clause-spends : goal.returns-in_err-frame-clause-spends
 returns-in_err-frame-clause-spends c =
-    let t = c.args.self.now.table.now in
-    let m = message c.args.self.now in
     let old = at_of c.args.state.now in
     let kept : at_of c.pass_member.new.state ≡ old = c.pass_member.ensures.kept c.if-pass_member.false in
     let next : c.pass_member.new.state.next ≡ c.args.state.now.next = ap (λ (s : Position). s.next) kept in
@@ -143,8 +138,6 @@ returns-in_err-frame-clause-fault_is_true c =
     let m = message c.args.self.now in
     let old = at_of c.args.state.now in
     let kept : at_of c.pass_member.new.state ≡ old = c.pass_member.ensures.kept c.if-pass_member.false in
-    let next : c.pass_member.new.state.next ≡ c.args.state.now.next = ap (λ (s : Position). s.next) kept in
-    let still : c.pass_member.new.state.steps ≡ c.args.state.now.steps = omega (arith, next, c.pass_member.ensures.grows, c.pass_member.ensures.pays) in
     passed_on c.from_residual-in_err-frame.result c.in_err-frame.field-0.0 _ c.from_residual-in_err-frame.ensures.1
     (subst (λ (o : Option raw.Row). BreaksMember (declarations_of t) m c.args.depth (member_term o) c.args.envelope old c.in_err-frame.field-0.0) (sym c.in-Some.is)
     (subst (λ (s : Position). BreaksMember (declarations_of t) m c.args.depth (Some (ty.named c.in-Some.row.entry)) c.args.envelope s c.in_err-frame.field-0.0) kept c.in_err-frame.ensures.fault_is_true))
@@ -155,8 +148,6 @@ returns-clause-ok c =
     let m = message c.args.self.now in
     let old = at_of c.args.state.now in
     let kept : at_of c.pass_member.new.state ≡ old = c.pass_member.ensures.kept c.if-pass_member.false in
-    let next : c.pass_member.new.state.next ≡ c.args.state.now.next = ap (λ (s : Position). s.next) kept in
-    let still : c.pass_member.new.state.steps ≡ c.args.state.now.steps = omega (arith, next, c.pass_member.ensures.grows, c.pass_member.ensures.pays) in
     let new = at_of c.enter_member.new.state in
     let x = c.in_ok-frame.ensures in
     let o = opens_known t m c.args.depth c.args.envelope (at_of c.pass_member.new.state) new x.state (c.enter_member.new.state.steps - c.args.state.now.steps) c.in-Some.row.entry c.in_ok-frame.frame x.grows x.ok x.breaks x.least x.fine x.deeper x.work x.moves in
@@ -180,8 +171,6 @@ returns-clause-pays c =
 
 pub returns-clause-spends : goal.returns-clause-spends
 returns-clause-spends c =
-    let t = c.args.self.now.table.now in
-    let m = message c.args.self.now in
     let old = at_of c.args.state.now in
     let kept : at_of c.pass_member.new.state ≡ old = c.pass_member.ensures.kept c.if-pass_member.false in
     let next : c.pass_member.new.state.next ≡ c.args.state.now.next = ap (λ (s : Position). s.next) kept in

@@ -1,9 +1,8 @@
 use Rattle.fidl_decode.specs.Reading.{message}
 use Rattle.fidl_decode.proofs.Fitting.{small, ended, counted_on, some_8, size_in, le_more, pays_whole}
 use Rattle.fidl_decode.proofs.Unchanged.{no_true, no_false, not_err, same_le, size_fits, size_room}
-use Rattle.std.proofs.Common.{◌≡◌, ◌+◌, ◌-◌, ◌<◌, ◌≤◌, ◌^◌, ℕ, List, get_or, false, refl, sym, ap, subst, ◌∙◌, arith, length}
-use Rattle.std.specs.Prelude.{Option, Some, None}
-use Rattle.std.specs.Option.{is_some}
+use Rattle.std.proofs.Common.{◌≡◌, ◌+◌, ◌-◌, ◌<◌, ◌≤◌, ◌^◌, ℕ, List, get_or, refl, sym, ap, subst, ◌∙◌, arith, length}
+use Rattle.std.specs.Prelude.{Option, None, IfSome}
 use Rattle.std.specs.Int.{next_multiple_of, w64}
 use Rattle.fidl_wire.specs.Encoding.{zeros}
 use Rattle.fidl_wire.specs.Standing.{Stands}
@@ -21,16 +20,12 @@ use Rattle.fidl_decode.proofs.ReadyPlaces.{ahead_part}
 use Rattle.fidl_decode.proofs.Linking.{outside_at}
 use Rattle.fidl_decode.proofs.decoder.Decoder.pass_struct.Goals as goal
 
-no_flag : (o : Option ℕ) → is_some o ≡ false → o ≡ None
-no_flag None e = refl
-no_flag (Some k) e = absurd (no_false e)
+-- all rows of the struct are passed over
+wholly : (t : List ℕ) (m : Message) (e d : Entry) (rows first done : ℕ) → e ≡ d → Passes t m (Rows e.first e.count) rows first 0 done None → Passes t m (Rows d.first d.count) rows first 0 done None
+wholly t m e d rows first done is p = subst (λ (x : Entry). Passes t m (Rows x.first x.count) rows first 0 done None) is p
 
--- all rows of the struct are passed over, and no bool is among them
-plainly : (t : List ℕ) (m : Message) (e d : Entry) (rows first count done : ℕ) (flag : Option ℕ) → e ≡ d → count ≡ 0 → flag ≡ None → Passes t m (Rows e.first e.count) rows first count done flag → Passes t m (Rows d.first d.count) rows first 0 done None
-plainly t m e d rows first count done flag is all none p = subst (λ (X : Type 0). X) (λ i. Passes t m (Rows (is i).first (is i).count) rows first (all i) done (none i)) p
-
-pub plain_rows-plain-requires : goal.plain_rows-plain-requires
-plain_rows-plain-requires c =
+pub free_size-requires : goal.free_size-requires
+free_size-requires c =
     let t = c.args.self.now.table.now in
     record { within = subst (λ (d : Entry). d.first + d.count ≤ (header_of t).rows) (sym c.entry-e.ensures.value) (fine_as t c.args.self.now.fine c.args.entry Struct c.requires.entry c.requires.kind).content.0 }
 
@@ -42,10 +37,12 @@ overflow_add-next c =
     let d = entry_at t c.args.entry in
     let is : c.entry-e.result ≡ d = c.entry-e.ensures.value in
     let whole : c.next_multiple_of-whole.result ≡ next_multiple_of d.size 8 = c.next_multiple_of-whole.ensures.value ∙ ap (λ (d : Entry). next_multiple_of d.size 8) is in
-    let plain = c.plain_rows-plain.result in
-    let passes = plainly t m c.entry-e.result d plain.rows plain.first plain.count plain.done plain.flag is c.if-plain-ne0.false (no_flag plain.flag (sym c.is_some.ensures ∙ c.if-is_some.false)) c.plain_rows-plain.ensures.passes in
+    let done = c.in-Some.done in
+    let rows = c.entry-e.result.count in
+    let first = c.entry-e.result.first + c.entry-e.result.count in
+    let passes = wholly t m c.entry-e.result d rows first done is (subst (λ (o : Option ℕ). IfSome o (λ done. Passes t m (Rows c.entry-e.result.first c.entry-e.result.count) rows first 0 done None)) c.in-Some.is c.free_size.ensures.passes) in
     let within = rows_within t c.args.self.now.fine m (c.args.self.now.short, c.requires.state.few) c.args.depth c.args.entry c.args.envelope old c.requires.entry c.requires.room (λ i. omega (arith, c.args.self.now.octets i)) c.requires.state c.requires.depth c.requires.kind
-    (omega (arith, c.requires.depth, c.if-depth-eq-MAX_DEPTH.false)) (omega (arith, (size_fits c.args.self.now.sized _ _ c.if-whole-self.false), whole)) plain.rows plain.first plain.done passes in
+    (omega (arith, c.requires.depth, c.if-depth-eq-MAX_DEPTH.false)) (omega (arith, (size_fits c.args.self.now.sized _ _ c.if-whole-self.false), whole)) rows first done passes in
     record { fits = omega (arith, within, (size_fits c.args.self.now.sized _ _ c.if-whole-self.false), c.next_multiple_of-whole.ensures.lower_bound, ap (λ (d : Entry). d.size) is, c.args.self.now.short, c.requires.state.next) }
 
 pub zeros_at-requires-clause-order : goal.zeros_at-requires-clause-order
@@ -56,10 +53,12 @@ zeros_at-requires-clause-order c =
     let d = entry_at t c.args.entry in
     let is : c.entry-e.result ≡ d = c.entry-e.ensures.value in
     let whole : c.next_multiple_of-whole.result ≡ next_multiple_of d.size 8 = c.next_multiple_of-whole.ensures.value ∙ ap (λ (d : Entry). next_multiple_of d.size 8) is in
-    let plain = c.plain_rows-plain.result in
-    let passes = plainly t m c.entry-e.result d plain.rows plain.first plain.count plain.done plain.flag is c.if-plain-ne0.false (no_flag plain.flag (sym c.is_some.ensures ∙ c.if-is_some.false)) c.plain_rows-plain.ensures.passes in
+    let done = c.in-Some.done in
+    let rows = c.entry-e.result.count in
+    let first = c.entry-e.result.first + c.entry-e.result.count in
+    let passes = wholly t m c.entry-e.result d rows first done is (subst (λ (o : Option ℕ). IfSome o (λ done. Passes t m (Rows c.entry-e.result.first c.entry-e.result.count) rows first 0 done None)) c.in-Some.is c.free_size.ensures.passes) in
     let within = rows_within t c.args.self.now.fine m (c.args.self.now.short, c.requires.state.few) c.args.depth c.args.entry c.args.envelope old c.requires.entry c.requires.room (λ i. omega (arith, c.args.self.now.octets i)) c.requires.state c.requires.depth c.requires.kind
-    (omega (arith, c.requires.depth, c.if-depth-eq-MAX_DEPTH.false)) (omega (arith, (size_fits c.args.self.now.sized _ _ c.if-whole-self.false), whole)) plain.rows plain.first plain.done passes in
+    (omega (arith, c.requires.depth, c.if-depth-eq-MAX_DEPTH.false)) (omega (arith, (size_fits c.args.self.now.sized _ _ c.if-whole-self.false), whole)) rows first done passes in
     omega (arith, within, c.next_multiple_of-whole.ensures.lower_bound, ap (λ (d : Entry). d.size) is)
 
 pub returns-clause-passed : goal.returns-clause-passed
@@ -71,24 +70,26 @@ returns-clause-passed c =
     let d = entry_at t c.args.entry in
     let is : c.entry-e.result ≡ d = c.entry-e.ensures.value in
     let whole : c.next_multiple_of-whole.result ≡ next_multiple_of d.size 8 = c.next_multiple_of-whole.ensures.value ∙ ap (λ (d : Entry). next_multiple_of d.size 8) is in
-    let plain = c.plain_rows-plain.result in
-    let passes = plainly t m c.entry-e.result d plain.rows plain.first plain.count plain.done plain.flag is c.if-plain-ne0.false (no_flag plain.flag (sym c.is_some.ensures ∙ c.if-is_some.false)) c.plain_rows-plain.ensures.passes in
+    let done = c.in-Some.done in
+    let rows = c.entry-e.result.count in
+    let first = c.entry-e.result.first + c.entry-e.result.count in
+    let passes = wholly t m c.entry-e.result d rows first done is (subst (λ (o : Option ℕ). IfSome o (λ done. Passes t m (Rows c.entry-e.result.first c.entry-e.result.count) rows first 0 done None)) c.in-Some.is c.free_size.ensures.passes) in
     let within = rows_within t c.args.self.now.fine m (c.args.self.now.short, c.requires.state.few) c.args.depth c.args.entry c.args.envelope old c.requires.entry c.requires.room (λ i. omega (arith, c.args.self.now.octets i)) c.requires.state c.requires.depth c.requires.kind
-    (omega (arith, c.requires.depth, c.if-depth-eq-MAX_DEPTH.false)) (omega (arith, (size_fits c.args.self.now.sized _ _ c.if-whole-self.false), whole)) plain.rows plain.first plain.done passes in
-    let wide = c.plain_rows-plain.ensures.wide in
+    (omega (arith, c.requires.depth, c.if-depth-eq-MAX_DEPTH.false)) (omega (arith, (size_fits c.args.self.now.sized _ _ c.if-whole-self.false), whole)) rows first done passes in
+    let wide = subst (λ (o : Option ℕ). IfSome o (λ done. c.entry-e.result.count ≤ done)) c.in-Some.is c.free_size.ensures.wide in
     let small = c.next_multiple_of-whole.result in
     let is_small = sym c.u64_at.ensures ∙ c.if-u64_at-whole.false in
     let few : number_at w64 m.bytes c.args.envelope < 2 ^ 32 = omega (arith, is_small, (size_fits c.args.self.now.sized _ _ c.if-whole-self.false), c.args.self.now.short) in
     let octets : (i : ℕ) → get_or m.bytes i 0 < 256 = λ i. omega (arith, c.args.self.now.octets i) in
     let z = not_err c.zeros_at.result (sym c.is_err.ensures.value ∙ c.if-is_err.false) c.zeros_at.ensures.ok in
-    let z' = subst (λ n. Stands m.bytes (old.next + plain.done) (zeros (old.next + n - (old.next + plain.done)))) whole z in
+    let z' = subst (λ n. Stands m.bytes (old.next + done) (zeros (old.next + n - (old.next + done)))) whole z in
     let new : Position = record { next = old.next + small; handle = old.handle; objects = c.link_outside.new.self.objects; records = c.link_outside.new.self.records } in
     let objects = c.link_outside.ensures.objects in
     let records = c.link_outside.ensures.records in
     let led : linked c.args.envelope d.size (opened c.args.envelope old) ≡ new
     = λ i. record { next = old.next + sym whole i; handle = old.handle; objects = sym objects i; records = sym records i } in
     struct_passed t c.args.self.now.fine m (c.args.self.now.short, c.requires.state.few) c.args.depth c.args.entry c.args.envelope old c.requires.entry c.requires.room (λ i. omega (arith, c.args.self.now.octets i)) c.requires.state c.requires.depth c.requires.kind
-    (omega (arith, c.requires.depth, c.if-depth-eq-MAX_DEPTH.false)) (omega (arith, (size_fits c.args.self.now.sized _ _ c.if-whole-self.false), whole)) plain.rows plain.first plain.done passes
+    (omega (arith, c.requires.depth, c.if-depth-eq-MAX_DEPTH.false)) (omega (arith, (size_fits c.args.self.now.sized _ _ c.if-whole-self.false), whole)) rows first done passes
     (omega (arith, c.if-size-le4.false, ap (λ (d : Entry). d.size) is)) (flags_none m.bytes c.args.envelope c.requires.room octets few)
     (counted_small m.bytes c.args.envelope c.requires.room octets few ∙ is_small ∙ whole)
     (handles_none m.bytes c.args.envelope c.requires.room octets few) z' new led _
@@ -127,17 +128,17 @@ returns-then-whole-self-clause-grows c = same_le _
 pub returns-then-whole-self-clause-pays : goal.returns-then-whole-self-clause-pays
 returns-then-whole-self-clause-pays c = same_le _
 
-pub returns-then-plain-ne0-clause-passed : goal.returns-then-plain-ne0-clause-passed
-returns-then-plain-ne0-clause-passed c so = absurd (no_true so)
+pub returns-in_default-clause-passed : goal.returns-in_default-clause-passed
+returns-in_default-clause-passed c so = absurd (no_true so)
 
-pub returns-then-plain-ne0-clause-kept : goal.returns-then-plain-ne0-clause-kept
-returns-then-plain-ne0-clause-kept c kept = refl
+pub returns-in_default-clause-kept : goal.returns-in_default-clause-kept
+returns-in_default-clause-kept c kept = refl
 
-pub returns-then-plain-ne0-clause-grows : goal.returns-then-plain-ne0-clause-grows
-returns-then-plain-ne0-clause-grows c = same_le _
+pub returns-in_default-clause-grows : goal.returns-in_default-clause-grows
+returns-in_default-clause-grows c = same_le _
 
-pub returns-then-plain-ne0-clause-pays : goal.returns-then-plain-ne0-clause-pays
-returns-then-plain-ne0-clause-pays c = same_le _
+pub returns-in_default-clause-pays : goal.returns-in_default-clause-pays
+returns-in_default-clause-pays c = same_le _
 
 pub returns-then-is_err-clause-passed : goal.returns-then-is_err-clause-passed
 returns-then-is_err-clause-passed c so = absurd (no_true so)

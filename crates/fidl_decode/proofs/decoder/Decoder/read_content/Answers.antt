@@ -38,13 +38,10 @@ is_flat-requires c = record {
 
 pub read_whole-requires-clause-kind : goal.read_whole-requires-clause-kind
 read_whole-requires-clause-kind c =
-    let t = c.args.self.now.table.now in
-    let m = message c.args.self.now in
     ap (λ (e : Entry). kind_of e.kind) (sym c.entry-e.ensures.value) ∙ sym c.from_number.ensures ∙ c.in-Some.is
 
 pub read_whole-requires-clause-flat : goal.read_whole-requires-clause-flat
 read_whole-requires-clause-flat c =
-    let t = c.args.self.now.table.now in
     c.is_flat.ensures c.if-not-is_flat.false
 
 pub read_whole-requires-clause-left : goal.read_whole-requires-clause-left

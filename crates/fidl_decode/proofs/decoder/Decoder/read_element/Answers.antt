@@ -1,20 +1,15 @@
 use Rattle.fidl_decode.specs.Reading.{message}
-use lib.Dec.{eqb-suc-zero}
-use Rattle.std.proofs.Common.{◌≡◌, ℕ, zero, suc, ◌+◌, ◌≤◌, refl, sym, ap, subst, arith}
-use Rattle.std.specs.Prelude.{IsTrue, not, eqb, length}
+use Rattle.std.proofs.Common.{◌+◌, ◌≤◌, sym, subst, arith}
+use Rattle.std.specs.Prelude.{length}
 use Rattle.std.proofs.lemmas.Result.{IfErr-weaker}
 use Rattle.fidl_table_format.specs.declared.kind.EntryKind.TheVariants.{Table}
 use Rattle.fidl_decode_model.specs.Machine.{at_of}
 use Rattle.fidl_decode_model.proofs.Visiting.{size_as, leaf_breaks}
 use Rattle.fidl_decode_columns.proofs.Wholly.{leaf_cost}
 use Rattle.fidl_decode.proofs.Fitting.{le_one}
+use Rattle.fidl_decode.proofs.Flags.{is_set}
 use Rattle.fidl_decode.proofs.ReadyPlaces.{place_of}
 use Rattle.fidl_decode.proofs.decoder.Decoder.read_element.Goals as goal
-
--- a parameter that is not false is true
-is_set : (flag : ℕ) → (flag ≡ 0 → ⊥) → IsTrue (not (eqb flag 0))
-is_set zero some = absurd (some refl)
-is_set (suc n) some = ap not (eqb-suc-zero n)
 
 pub read_table-requires-clause-room : goal.read_table-requires-clause-room
 read_table-requires-clause-room g c = subst (λ n. c.args.place + n ≤ length c.args.self.now.bytes.value.came)

@@ -21,22 +21,11 @@ unreachable-requires c =
 
 pub read_whole-requires-clause-frame : goal.read_whole-requires-clause-frame
 read_whole-requires-clause-frame c =
-    let t = c.args.self.now.table.now in
-    let m = message c.args.self.now in
-    let old = at_of c.args.state.now in
-    let mid = at_of c.enter_member.new.state in
-    let frame = c.in_ok-frame.frame in
     let x = c.in_ok-frame.ensures in
-    let o = opens_known t m c.args.depth c.args.envelope old mid x.state 0 c.args.entry frame x.grows x.ok x.breaks x.least x.fine x.deeper x.work x.moves in
-    let work = opens_work t m c.args.depth (Some (ty.named c.args.entry)) c.args.envelope old mid 0 frame o in
-    let still = x.steps in
     x.fine
 
 pub read_whole-requires-clause-left : goal.read_whole-requires-clause-left
 read_whole-requires-clause-left c =
-    let t = c.args.self.now.table.now in
-    let m = message c.args.self.now in
-    let old = at_of c.args.state.now in
     let left = c.in_ok-frame.ensures.left in
     same_content c.in_ok-frame.frame.left _ c.in-Content.size _ c.args.entry _ 1 c.in-Content.until left.0 c.in-Content.is left.1
 
@@ -62,11 +51,7 @@ returns-clause-ok c =
     let frame = c.in_ok-frame.frame in
     let x = c.in_ok-frame.ensures in
     let o = opens_known t m c.args.depth c.args.envelope old mid x.state 0 c.args.entry frame x.grows x.ok x.breaks x.least x.fine x.deeper x.work x.moves in
-    let work = opens_work t m c.args.depth (Some (ty.named c.args.entry)) c.args.envelope old mid 0 frame o in
-    let still = x.steps in
     let new = at_of c.read_whole.new.state in
-    let spent = c.read_whole.new.state.steps - c.args.state.now.steps in
-    let same : c.read_whole.new.state.steps - c.enter_member.new.state.steps ≡ spent = omega (arith, still) in
     on_ok_from c.read_whole.result (λ turns. opens_on t m c.args.depth (Some (ty.named c.args.entry)) c.args.envelope old mid 0 frame o new
     (c.read_whole.new.state.steps - c.enter_member.new.state.steps) (c.read_whole.new.state.steps - c.args.state.now.steps) None
     (omega (arith, x.steps)) turns) c.read_whole.ensures.ok
@@ -80,7 +65,6 @@ returns-clause-pays c =
     let frame = c.in_ok-frame.frame in
     let x = c.in_ok-frame.ensures in
     let o = opens_known t m c.args.depth c.args.envelope old mid x.state 0 c.args.entry frame x.grows x.ok x.breaks x.least x.fine x.deeper x.work x.moves in
-    let work = opens_work t m c.args.depth (Some (ty.named c.args.entry)) c.args.envelope old mid 0 frame o in
     let still = x.steps in
     let new = at_of c.read_whole.new.state in
     let spent = c.read_whole.new.state.steps - c.args.state.now.steps in
@@ -96,20 +80,11 @@ returns-clause-fault_is_true c =
     let frame = c.in_ok-frame.frame in
     let x = c.in_ok-frame.ensures in
     let o = opens_known t m c.args.depth c.args.envelope old mid x.state 0 c.args.entry frame x.grows x.ok x.breaks x.least x.fine x.deeper x.work x.moves in
-    let work = opens_work t m c.args.depth (Some (ty.named c.args.entry)) c.args.envelope old mid 0 frame o in
-    let still = x.steps in
     IfErr-weaker c.read_whole.result _ _ (λ fault b. o.breaks fault b) c.read_whole.ensures.fault_is_true
 
 pub returns-clause-grows : goal.returns-clause-grows
 returns-clause-grows c =
-    let t = c.args.self.now.table.now in
-    let m = message c.args.self.now in
-    let old = at_of c.args.state.now in
-    let mid = at_of c.enter_member.new.state in
-    let frame = c.in_ok-frame.frame in
     let x = c.in_ok-frame.ensures in
-    let o = opens_known t m c.args.depth c.args.envelope old mid x.state 0 c.args.entry frame x.grows x.ok x.breaks x.least x.fine x.deeper x.work x.moves in
-    let work = opens_work t m c.args.depth (Some (ty.named c.args.entry)) c.args.envelope old mid 0 frame o in
     let still = x.steps in
     on_ok_from c.read_whole.result (λ rises. omega (arith, rises, still)) c.read_whole.ensures.rises
 

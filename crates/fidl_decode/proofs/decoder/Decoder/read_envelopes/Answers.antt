@@ -22,17 +22,7 @@ loop-many-init c =
 
 pub take_envelope-requires-clause-left : goal.take_envelope-requires-clause-left
 take_envelope-requires-clause-left c =
-    let t = c.args.self.now.table.now in
-    let m = message c.args.self.now in
-    let f = c.args.frame in
-    let old = at_of c.args.state.now in
-    let now = at_of c.loop-many.state in
-    let a = c.loop-many.state.steps - c.args.state.now.steps in
-    let begun = c.loop-many.invariant.steps in
-    let rest = c.envelopes_from-now.result in
     let same = c.envelopes_from-now.ensures in
-    let so_far = subst (λ (x : Frame). Turns t m f old now a (left_over (Some x))) (sym same) c.loop-many.invariant.turns in
-    let less = so_far.less in
     ap (λ (x : Frame). x.left) same
 
 pub take_envelope-requires-clause-frame : goal.take_envelope-requires-clause-frame
@@ -43,11 +33,8 @@ take_envelope-requires-clause-frame c =
     let old = at_of c.args.state.now in
     let now = at_of c.loop-many.state in
     let a = c.loop-many.state.steps - c.args.state.now.steps in
-    let begun = c.loop-many.invariant.steps in
-    let rest = c.envelopes_from-now.result in
     let same = c.envelopes_from-now.ensures in
     let so_far = subst (λ (x : Frame). Turns t m f old now a (left_over (Some x))) (sym same) c.loop-many.invariant.turns in
-    let less = so_far.less in
     so_far.rest_fine.0
 
 pub take_envelope-requires-clause-budget : goal.take_envelope-requires-clause-budget
@@ -59,7 +46,6 @@ take_envelope-requires-clause-budget c =
     let now = at_of c.loop-many.state in
     let a = c.loop-many.state.steps - c.args.state.now.steps in
     let begun = c.loop-many.invariant.steps in
-    let rest = c.envelopes_from-now.result in
     let same = c.envelopes_from-now.ensures in
     let so_far = subst (λ (x : Frame). Turns t m f old now a (left_over (Some x))) (sym same) c.loop-many.invariant.turns in
     let less = so_far.less in
@@ -74,7 +60,6 @@ returns-in_err-below-clause-cost c =
     let now = at_of c.loop-many.state in
     let a = c.loop-many.state.steps - c.args.state.now.steps in
     let begun = c.loop-many.invariant.steps in
-    let rest = c.envelopes_from-now.result in
     let same = c.envelopes_from-now.ensures in
     let so_far = subst (λ (x : Frame). Turns t m f old now a (left_over (Some x))) (sym same) c.loop-many.invariant.turns in
     let less = so_far.less in
@@ -88,11 +73,9 @@ returns-in_err-below-clause-fault_is_true c =
     let old = at_of c.args.state.now in
     let now = at_of c.loop-many.state in
     let a = c.loop-many.state.steps - c.args.state.now.steps in
-    let begun = c.loop-many.invariant.steps in
     let rest = c.envelopes_from-now.result in
     let same = c.envelopes_from-now.ensures in
     let so_far = subst (λ (x : Frame). Turns t m f old now a (left_over (Some x))) (sym same) c.loop-many.invariant.turns in
-    let less = so_far.less in
     passed_on c.from_residual.result c.in_err-below.field-0.0 _ c.from_residual.ensures.1 (turns_break t m f old now a rest so_far _ c.in_err-below.ensures.fault_is_true)
 
 pub returns-in-Some-clause-ok : goal.returns-in-Some-clause-ok

@@ -24,12 +24,10 @@ no_true e = cc
 pub returns-then-is_leaf-clause-spends : goal.returns-then-is_leaf-clause-spends
 returns-then-is_leaf-clause-spends c =
     let t = c.args.self.now.table.now in
-    let m = message c.args.self.now in
-    let old = at_of c.args.state.now in
     spends_any _ _ _ (omega (arith, (not_fewer _ _ _ c.read_leaf.ensures.spends))) (omega (arith, c.read_leaf.ensures.spends.most, leaf_cost t c.args.self.now.fine c.args.self.now.bytes.value.came c.args.state.now.next c.args.entry c.requires.entry))
 
-pub read_fields-requires-clause-frame : goal.read_fields-requires-clause-frame
-read_fields-requires-clause-frame c =
+pub read_fields_apart-requires-clause-frame : goal.read_fields_apart-requires-clause-frame
+read_fields_apart-requires-clause-frame c =
     let t = c.args.self.now.table.now in
     let m = message c.args.self.now in
     let old = at_of c.args.state.now in
@@ -39,21 +37,15 @@ read_fields-requires-clause-frame c =
     subst (λ (d : Entry). FrameFine t m.bytes (struct_frame d c.args.place c.args.depth 0)) (sym c.entry-e.ensures.value)
     (struct_fine t c.args.self.now.fine m c.args.depth c.args.entry c.args.place old c.requires.entry c.requires.state c.requires.depth 0 is c.requires.room (inl refl)).0
 
-pub read_fields-requires-clause-leaves : goal.read_fields-requires-clause-leaves
-read_fields-requires-clause-leaves c =
+pub read_fields_apart-requires-clause-leaves : goal.read_fields_apart-requires-clause-leaves
+read_fields_apart-requires-clause-leaves c =
     let t = c.args.self.now.table.now in
-    let m = message c.args.self.now in
-    let old = at_of c.args.state.now in
     let d = entry_at t c.args.entry in
     let flat : (c.args.kind ≡ Struct) × AreLeaves t d.first d.count = elim c.requires.flat [ inl leaf ↦ absurd (no_true (sym c.if-is_leaf.false ∙ c.is_leaf.ensures ∙ leaf)) | inr s ↦ s ] in
-    let is : kind_of d.kind ≡ Some Struct = c.requires.kind ∙ ap (λ (k : EntryKind). Some k) flat.0 in
     subst (λ (d : Entry). AreLeaves t d.first d.count) (sym c.entry-e.ensures.value) flat.1
 
-pub read_fields-requires-clause-budget : goal.read_fields-requires-clause-budget
-read_fields-requires-clause-budget c =
-    let t = c.args.self.now.table.now in
-    let m = message c.args.self.now in
-    let old = at_of c.args.state.now in
+pub read_fields_apart-requires-clause-budget : goal.read_fields_apart-requires-clause-budget
+read_fields_apart-requires-clause-budget c =
     let work = ap (λ (d : Entry). value_work c.args.self.now.bytes.value.came c.args.state.now.next d) c.entry-e.ensures.value in
     omega (arith, c.requires.budget, work, work_none c.entry-e.result.nest c.entry-e.result.size)
 
@@ -68,10 +60,9 @@ returns-clause-ok c =
     let frame : Entry → Frame = λ d. struct_frame d c.args.place c.args.depth 0 in
     let visit = subst (λ (d : Entry). Visits t m c.args.depth c.args.entry c.args.place old old 0 (Some (frame d))) (sym c.entry-e.ensures.value)
     (visits_struct t c.args.self.now.fine m c.args.depth c.args.entry c.args.place old c.requires.entry c.requires.state c.requires.depth 0 0 refl is c.requires.room) in
-    let rises = (one_more _ _ _ c.read_fields.ensures.spends) in
-    on_ok_from c.read_fields.result (λ turns. visits_over t m c.args.depth c.args.entry c.args.place old old 0 (frame c.entry-e.result) visit
-    (at_of c.read_fields.new.state) (c.read_fields.new.state.steps - c.args.state.now.steps)
-    (c.read_fields.new.state.steps - c.args.state.now.steps) (omega arith) turns) c.read_fields.ensures.ok
+    on_ok_from c.read_fields_apart.result (λ turns. visits_over t m c.args.depth c.args.entry c.args.place old old 0 (frame c.entry-e.result) visit
+    (at_of c.read_fields_apart.new.state) (c.read_fields_apart.new.state.steps - c.args.state.now.steps)
+    (c.read_fields_apart.new.state.steps - c.args.state.now.steps) (omega arith) turns) c.read_fields_apart.ensures.ok
 
 pub returns-clause-fault_is_true : goal.returns-clause-fault_is_true
 returns-clause-fault_is_true c =
@@ -84,15 +75,12 @@ returns-clause-fault_is_true c =
     let frame : Entry → Frame = λ d. struct_frame d c.args.place c.args.depth 0 in
     let visit = subst (λ (d : Entry). Visits t m c.args.depth c.args.entry c.args.place old old 0 (Some (frame d))) (sym c.entry-e.ensures.value)
     (visits_struct t c.args.self.now.fine m c.args.depth c.args.entry c.args.place old c.requires.entry c.requires.state c.requires.depth 0 0 refl is c.requires.room) in
-    IfErr-weaker c.read_fields.result _ _ (λ fault b. visit.breaks fault b) c.read_fields.ensures.fault_is_true
+    IfErr-weaker c.read_fields_apart.result _ _ (λ fault b. visit.breaks fault b) c.read_fields_apart.ensures.fault_is_true
 
 pub returns-clause-spends : goal.returns-clause-spends
 returns-clause-spends c =
-    let t = c.args.self.now.table.now in
-    let m = message c.args.self.now in
-    let old = at_of c.args.state.now in
     let work = ap (λ (d : Entry). value_work c.args.self.now.bytes.value.came c.args.state.now.next d) c.entry-e.ensures.value in
-    spends_any _ _ _ (omega (arith, (one_more _ _ _ c.read_fields.ensures.spends))) (omega (arith, c.read_fields.ensures.spends.most, work, work_none c.entry-e.result.nest c.entry-e.result.size))
+    spends_any _ _ _ (omega (arith, (one_more _ _ _ c.read_fields_apart.ensures.spends))) (omega (arith, c.read_fields_apart.ensures.spends.most, work, work_none c.entry-e.result.nest c.entry-e.result.size))
 
 pub read_leaf-requires-clause-entry : goal.read_leaf-requires-clause-entry
 read_leaf-requires-clause-entry c = c.requires.entry
@@ -112,11 +100,11 @@ read_leaf-requires-clause-depth c = c.requires.depth
 pub entry-e-requires : goal.entry-e-requires
 entry-e-requires c = c.requires.entry
 
-pub read_fields-requires-clause-state : goal.read_fields-requires-clause-state
-read_fields-requires-clause-state c = c.requires.state
+pub read_fields_apart-requires-clause-state : goal.read_fields_apart-requires-clause-state
+read_fields_apart-requires-clause-state c = c.requires.state
 
-pub read_fields-requires-clause-ready : goal.read_fields-requires-clause-ready
-read_fields-requires-clause-ready c =
+pub read_fields_apart-requires-clause-ready : goal.read_fields_apart-requires-clause-ready
+read_fields_apart-requires-clause-ready c =
     let t = c.args.self.now.table.now in
     let m = message c.args.self.now in
     let old = at_of c.args.state.now in

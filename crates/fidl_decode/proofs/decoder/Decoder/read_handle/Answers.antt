@@ -16,7 +16,6 @@ nobody = record { id = 0; object_type = 0; rights = 0 }
 pub returns-then-not-is_allowed-clause-fault_is_true : goal.returns-then-not-is_allowed-clause-fault_is_true
 returns-then-not-is_allowed-clause-fault_is_true c =
     let within : c.args.state.now.handle < length c.args.self.now.handles.now = (let h = c.requires.state.handle in omega (arith, h, c.if-state-self.false)) in
-    let bad = c.if-not-is_allowed.true in
     (refl, c.in-Present.ensures, (get_or c.args.self.now.handles.now c.args.state.now.handle nobody, slice_get-get_or c.args.self.now.handles.now c.args.state.now.handle nobody within, λ ok. let k = c.is_allowed.ensures.allowed.1 ok in cc))
 
 pub returns-else-not-is_optional-clause-ok : goal.returns-else-not-is_optional-clause-ok

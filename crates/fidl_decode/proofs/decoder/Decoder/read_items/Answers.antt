@@ -28,7 +28,6 @@ overflow_add-place g c =
     (c.loop-i.state.steps - c.args.state.now.steps) c.args.entry c.args.size c.args.count c.loop-i.i c.loop-i.done c.loop-i.invariant.turns in
     let before = room.0 in
     let within = room.1 in
-    let spend = room.2 in
     record { fits = omega (arith, before, within) }
 
 pub overflow_add-state : goal.overflow_add-state
@@ -46,7 +45,6 @@ pub read_element-requires-clause-room : goal.read_element-requires-clause-room
 read_element-requires-clause-room g c =
     let room = item_room c.args.self.now.table.now c.args.self.now.fine (message c.args.self.now) c.args.frame (at_of c.args.state.now) (at_of c.loop-i.state)
     (c.loop-i.state.steps - c.args.state.now.steps) c.args.entry c.args.size c.args.count c.loop-i.i c.loop-i.done c.loop-i.invariant.turns c.loop-i-test.true in
-    let fits = room.0 in
     let within = room.1 in
     omega (arith, within)
 
@@ -89,12 +87,10 @@ overflow_add-done g c =
     let within = room.1 in
     let size = item_size c.args.self.now.table.now c.args.self.now.fine (message c.args.self.now) c.args.frame (at_of c.args.state.now) (at_of c.loop-i.state)
     (c.loop-i.state.steps - c.args.state.now.steps) c.args.entry c.args.size c.args.count c.loop-i.i c.loop-i.done c.loop-i.invariant.turns c.loop-i-test.true in
-    let base = c.args.frame.base in
     record { fits = omega (arith, within, size) }
 
 pub returns-in-Some-clause-ok : goal.returns-in-Some-clause-ok
 returns-in-Some-clause-ok g c =
-    let less = c.loop-i.invariant.turns.less in
     let so_far = c.loop-i.invariant.steps in
     let visits = subst (λ (o : Option Frame). Visits c.args.self.now.table.now (message c.args.self.now) c.args.frame.depth c.args.entry (c.args.frame.base + c.loop-i.done) (at_of c.loop-i.state) (at_of c.read_element.new.state)
     (c.read_element.new.state.steps - (c.loop-i.state.steps + 1)) o) c.in-Some.is c.in_ok-found.ensures.ok in
@@ -105,7 +101,6 @@ returns-in-Some-clause-ok g c =
 
 pub returns-in-Some-clause-rises : goal.returns-in-Some-clause-rises
 returns-in-Some-clause-rises g c =
-    let less = c.loop-i.invariant.turns.less in
     let so_far = c.loop-i.invariant.steps in
     omega (arith, so_far, c.in_ok-found.ensures.grows)
 
@@ -119,7 +114,6 @@ returns-in-Some-clause-cost g c =
 
 pub loop-i-preserved : goal.loop-i-preserved
 loop-i-preserved g c =
-    let less = c.loop-i.invariant.turns.less in
     let so_far = c.loop-i.invariant.steps in
     let visits = subst (λ (o : Option Frame). Visits c.args.self.now.table.now (message c.args.self.now) c.args.frame.depth c.args.entry (c.args.frame.base + c.loop-i.done) (at_of c.loop-i.state) (at_of c.read_element.new.state)
     (c.read_element.new.state.steps - (c.loop-i.state.steps + 1)) o) c.in_default.is c.in_ok-found.ensures.ok in
@@ -136,7 +130,6 @@ overflow_add-behind g c =
     (c.loop-i.state.steps - c.args.state.now.steps) c.args.entry c.args.size c.args.count c.loop-i.i c.loop-i.done c.loop-i.invariant.turns in
     let before = room.0 in
     let within = room.1 in
-    let spend = room.2 in
     record { fits = omega (arith, before, within) }
 
 pub overflow_sub-state : goal.overflow_sub-state
@@ -145,7 +138,6 @@ overflow_sub-state g c =
     (c.loop-i.state.steps - c.args.state.now.steps) c.args.entry c.args.size c.args.count c.loop-i.i c.loop-i.done c.loop-i.invariant.turns in
     let before = room.0 in
     let within = room.1 in
-    let spend = room.2 in
     omega (arith, before, within)
 
 pub overflow_add-state-3 : goal.overflow_add-state-3
@@ -154,7 +146,6 @@ overflow_add-state-3 g c =
     (c.loop-i.state.steps - c.args.state.now.steps) c.args.entry c.args.size c.args.count c.loop-i.i c.loop-i.done c.loop-i.invariant.turns in
     let before = room.0 in
     let within = room.1 in
-    let spend = room.2 in
     let less = c.loop-i.invariant.turns.less in
     let so_far = c.loop-i.invariant.steps in
     record { fits = omega (arith, before, within, less, so_far, c.requires.budget) }
@@ -165,7 +156,6 @@ zeros_at-requires-clause-order g c =
     (c.loop-i.state.steps - c.args.state.now.steps) c.args.entry c.args.size c.args.count c.loop-i.i c.loop-i.done c.loop-i.invariant.turns in
     let before = room.0 in
     let within = room.1 in
-    let spend = room.2 in
     omega (arith, before, within)
 
 pub returns-in_err-zeros_at-clause-cost : goal.returns-in_err-zeros_at-clause-cost
@@ -173,7 +163,6 @@ returns-in_err-zeros_at-clause-cost g c =
     let room = items_room c.args.self.now.table.now c.args.self.now.fine (message c.args.self.now) c.args.frame (at_of c.args.state.now) (at_of c.loop-i.state)
     (c.loop-i.state.steps - c.args.state.now.steps) c.args.entry c.args.size c.args.count c.loop-i.i c.loop-i.done c.loop-i.invariant.turns in
     let before = room.0 in
-    let within = room.1 in
     let spend = room.2 in
     let less = c.loop-i.invariant.turns.less in
     let so_far = c.loop-i.invariant.steps in
@@ -187,14 +176,12 @@ returns-in_err-zeros_at-clause-fault_is_true g c =
 
 pub returns-clause-ok : goal.returns-clause-ok
 returns-clause-ok g c =
-    let less = c.loop-i.invariant.turns.less in
     let so_far = c.loop-i.invariant.steps in
     items_over c.args.self.now.table.now c.args.self.now.fine (message c.args.self.now) c.args.frame (at_of c.args.state.now) (at_of c.loop-i.state)
     (c.loop-i.state.steps - c.args.state.now.steps) c.args.entry c.args.size c.args.count c.loop-i.i c.loop-i.done c.loop-i.invariant.turns (omega (arith, c.loop-i-test.false)) _ (omega (arith, so_far)) (omega (arith, so_far)) c.in_ok-zeros_at.ensures.ok
 
 pub returns-clause-rises : goal.returns-clause-rises
 returns-clause-rises g c =
-    let less = c.loop-i.invariant.turns.less in
     let so_far = c.loop-i.invariant.steps in
     omega (arith, so_far)
 
@@ -203,7 +190,6 @@ returns-clause-cost g c =
     let room = items_room c.args.self.now.table.now c.args.self.now.fine (message c.args.self.now) c.args.frame (at_of c.args.state.now) (at_of c.loop-i.state)
     (c.loop-i.state.steps - c.args.state.now.steps) c.args.entry c.args.size c.args.count c.loop-i.i c.loop-i.done c.loop-i.invariant.turns in
     let before = room.0 in
-    let within = room.1 in
     let spend = room.2 in
     let less = c.loop-i.invariant.turns.less in
     let so_far = c.loop-i.invariant.steps in

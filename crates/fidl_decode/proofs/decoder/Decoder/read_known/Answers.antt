@@ -19,9 +19,6 @@ no_some a e = cc
 
 pub returns-then-pass_member-clause-pays : goal.returns-then-pass_member-clause-pays
 returns-then-pass_member-clause-pays c =
-    let t = c.args.self.now.table.now in
-    let m = message c.args.self.now in
-    let old = at_of c.args.state.now in
     let less = (c.pass_member.ensures.passed c.if-pass_member.true).less in
     let within = (c.pass_member.ensures.passed c.if-pass_member.true).state.next in
     let pays = c.pass_member.ensures.pays in
@@ -31,8 +28,6 @@ returns-then-pass_member-clause-pays c =
 pub unreachable-requires : goal.unreachable-requires
 unreachable-requires c =
     let t = c.args.self.now.table.now in
-    let m = message c.args.self.now in
-    let old = at_of c.args.state.now in
     let f = c.args.self.now.fine.each c.args.entry c.requires.entry in
     let none : kind_of (entry_at t c.args.entry).kind ≡ None = ap (λ (e : Entry). kind_of e.kind) (sym c.entry-e.ensures.value) ∙ sym c.from_number.ensures ∙ c.in_default.is in
     no_some f.0 (sym f.1.is ∙ none)
@@ -45,32 +40,21 @@ is_flat-requires c = record {
 
 pub read_enclosed-requires-clause-kind : goal.read_enclosed-requires-clause-kind
 read_enclosed-requires-clause-kind c =
-    let t = c.args.self.now.table.now in
-    let m = message c.args.self.now in
-    let old = at_of c.args.state.now in
     ap (λ (e : Entry). kind_of e.kind) (sym c.entry-e.ensures.value) ∙ sym c.from_number.ensures ∙ c.in-Some.is
 
 pub read_enclosed-requires-clause-flat : goal.read_enclosed-requires-clause-flat
 read_enclosed-requires-clause-flat c =
-    let t = c.args.self.now.table.now in
-    let m = message c.args.self.now in
-    let old = at_of c.args.state.now in
     c.is_flat.ensures c.if-is_flat.true
 
 pub read_enclosed-requires-clause-state : goal.read_enclosed-requires-clause-state
 read_enclosed-requires-clause-state c =
-    let t = c.args.self.now.table.now in
     let m = message c.args.self.now in
     let old = at_of c.args.state.now in
     let kept : at_of c.pass_member.new.state ≡ old = c.pass_member.ensures.kept c.if-pass_member.false in
-    let next : c.pass_member.new.state.next ≡ c.args.state.now.next = ap (λ (s : Position). s.next) kept in
-    let still : c.pass_member.new.state.steps ≡ c.args.state.now.steps = omega (arith, next, c.pass_member.ensures.grows, c.pass_member.ensures.pays) in
     subst (λ (s : Position). StateFine m s) (sym kept) c.requires.state
 
 pub read_enclosed-requires-clause-budget : goal.read_enclosed-requires-clause-budget
 read_enclosed-requires-clause-budget c =
-    let t = c.args.self.now.table.now in
-    let m = message c.args.self.now in
     let old = at_of c.args.state.now in
     let kept : at_of c.pass_member.new.state ≡ old = c.pass_member.ensures.kept c.if-pass_member.false in
     let next : c.pass_member.new.state.next ≡ c.args.state.now.next = ap (λ (s : Position). s.next) kept in
@@ -83,15 +67,11 @@ returns-in_err-read_enclosed-clause-fault_is_true c =
     let m = message c.args.self.now in
     let old = at_of c.args.state.now in
     let kept : at_of c.pass_member.new.state ≡ old = c.pass_member.ensures.kept c.if-pass_member.false in
-    let next : c.pass_member.new.state.next ≡ c.args.state.now.next = ap (λ (s : Position). s.next) kept in
-    let still : c.pass_member.new.state.steps ≡ c.args.state.now.steps = omega (arith, next, c.pass_member.ensures.grows, c.pass_member.ensures.pays) in
     passed_on c.from_residual.result c.in_err-read_enclosed.field-0.0 _ c.from_residual.ensures.1
     (subst (λ (s : Position). BreaksMember (declarations_of t) m c.args.depth (Some (ty.named c.args.entry)) c.args.envelope s c.in_err-read_enclosed.field-0.0) kept c.in_err-read_enclosed.ensures.fault_is_true)
 
 pub returns-in_err-read_enclosed-clause-cost : goal.returns-in_err-read_enclosed-clause-cost
 returns-in_err-read_enclosed-clause-cost c =
-    let t = c.args.self.now.table.now in
-    let m = message c.args.self.now in
     let old = at_of c.args.state.now in
     let kept : at_of c.pass_member.new.state ≡ old = c.pass_member.ensures.kept c.if-pass_member.false in
     let next : c.pass_member.new.state.next ≡ c.args.state.now.next = ap (λ (s : Position). s.next) kept in
@@ -111,8 +91,6 @@ returns-then-is_flat-clause-ok c =
 
 pub returns-then-is_flat-clause-pays : goal.returns-then-is_flat-clause-pays
 returns-then-is_flat-clause-pays c =
-    let t = c.args.self.now.table.now in
-    let m = message c.args.self.now in
     let old = at_of c.args.state.now in
     let kept : at_of c.pass_member.new.state ≡ old = c.pass_member.ensures.kept c.if-pass_member.false in
     let next : c.pass_member.new.state.next ≡ c.args.state.now.next = ap (λ (s : Position). s.next) kept in
@@ -122,8 +100,6 @@ returns-then-is_flat-clause-pays c =
 
 pub returns-then-is_flat-clause-grows : goal.returns-then-is_flat-clause-grows
 returns-then-is_flat-clause-grows c =
-    let t = c.args.self.now.table.now in
-    let m = message c.args.self.now in
     let old = at_of c.args.state.now in
     let kept : at_of c.pass_member.new.state ≡ old = c.pass_member.ensures.kept c.if-pass_member.false in
     let next : c.pass_member.new.state.next ≡ c.args.state.now.next = ap (λ (s : Position). s.next) kept in
@@ -133,8 +109,6 @@ returns-then-is_flat-clause-grows c =
 
 pub returns-then-is_flat-clause-cost : goal.returns-then-is_flat-clause-cost
 returns-then-is_flat-clause-cost c =
-    let t = c.args.self.now.table.now in
-    let m = message c.args.self.now in
     let old = at_of c.args.state.now in
     let kept : at_of c.pass_member.new.state ≡ old = c.pass_member.ensures.kept c.if-pass_member.false in
     let next : c.pass_member.new.state.next ≡ c.args.state.now.next = ap (λ (s : Position). s.next) kept in
@@ -143,12 +117,9 @@ returns-then-is_flat-clause-cost c =
 
 pub enter_member-requires-clause-state : goal.enter_member-requires-clause-state
 enter_member-requires-clause-state c =
-    let t = c.args.self.now.table.now in
     let m = message c.args.self.now in
     let old = at_of c.args.state.now in
     let kept : at_of c.pass_member.new.state ≡ old = c.pass_member.ensures.kept c.if-pass_member.false in
-    let next : c.pass_member.new.state.next ≡ c.args.state.now.next = ap (λ (s : Position). s.next) kept in
-    let still : c.pass_member.new.state.steps ≡ c.args.state.now.steps = omega (arith, next, c.pass_member.ensures.grows, c.pass_member.ensures.pays) in
     subst (λ (s : Position). StateFine m s) (sym kept) c.requires.state
 
 pub returns-in_err-frame-clause-fault_is_true : goal.returns-in_err-frame-clause-fault_is_true
@@ -157,8 +128,6 @@ returns-in_err-frame-clause-fault_is_true c =
     let m = message c.args.self.now in
     let old = at_of c.args.state.now in
     let kept : at_of c.pass_member.new.state ≡ old = c.pass_member.ensures.kept c.if-pass_member.false in
-    let next : c.pass_member.new.state.next ≡ c.args.state.now.next = ap (λ (s : Position). s.next) kept in
-    let still : c.pass_member.new.state.steps ≡ c.args.state.now.steps = omega (arith, next, c.pass_member.ensures.grows, c.pass_member.ensures.pays) in
     passed_on c.from_residual-in_err-frame.result c.in_err-frame.field-0.0 _ c.from_residual-in_err-frame.ensures.1
     (subst (λ (s : Position). BreaksMember (declarations_of t) m c.args.depth (Some (ty.named c.args.entry)) c.args.envelope s c.in_err-frame.field-0.0) kept c.in_err-frame.ensures.fault_is_true)
 
@@ -168,12 +137,9 @@ returns-clause-ok c =
     let m = message c.args.self.now in
     let old = at_of c.args.state.now in
     let kept : at_of c.pass_member.new.state ≡ old = c.pass_member.ensures.kept c.if-pass_member.false in
-    let next : c.pass_member.new.state.next ≡ c.args.state.now.next = ap (λ (s : Position). s.next) kept in
-    let still : c.pass_member.new.state.steps ≡ c.args.state.now.steps = omega (arith, next, c.pass_member.ensures.grows, c.pass_member.ensures.pays) in
     let mid = at_of c.pass_member.new.state in
     let new = at_of c.enter_member.new.state in
     let x = c.in_ok-frame.ensures in
-    let steps = x.steps in
     let o = opens_known t m c.args.depth c.args.envelope mid new x.state (c.enter_member.new.state.steps - c.args.state.now.steps) c.args.entry c.in_ok-frame.frame x.grows x.ok x.breaks x.least x.fine x.deeper x.work x.moves in
     subst (λ (s : Position). Opens t m c.args.depth (Some (ty.named c.args.entry)) c.args.envelope s new (c.enter_member.new.state.steps - c.args.state.now.steps) (Some c.in_ok-frame.frame)) kept o
 

@@ -148,9 +148,6 @@ returns-clause-ok c =
 
 pub returns-clause-grows : goal.returns-clause-grows
 returns-clause-grows c =
-    let t = c.args.self.now.table.now in
-    let m = message c.args.self.now in
-    let last : c.args.frame.left ≡ Rows c.args.first 1 = c.requires.left ∙ ap (λ n. Rows c.args.first n) c.if-count-ne1.false in
     let grows = (not_fewer _ _ _ c.in_ok-below.ensures.spends) in
     omega (arith, grows)
 

@@ -33,11 +33,8 @@ read_row-requires-clause-frame c =
     let old = at_of c.args.state.now in
     let now = at_of c.loop-many.state in
     let a = c.loop-many.state.steps - c.args.state.now.steps in
-    let begun = c.loop-many.invariant.steps in
-    let rest = c.rows_from-rest.result in
     let same = c.rows_from-rest.ensures in
     let so_far = subst (λ (x : Frame). Turns t m f old now a (left_over (Some x))) (sym same) c.loop-many.invariant.turns in
-    let less = so_far.less in
     so_far.rest_fine.0
 
 pub returns-in_err-read_row-clause-fault_is_true : goal.returns-in_err-read_row-clause-fault_is_true
@@ -48,11 +45,9 @@ returns-in_err-read_row-clause-fault_is_true c =
     let old = at_of c.args.state.now in
     let now = at_of c.loop-many.state in
     let a = c.loop-many.state.steps - c.args.state.now.steps in
-    let begun = c.loop-many.invariant.steps in
     let rest = c.rows_from-rest.result in
     let same = c.rows_from-rest.ensures in
     let so_far = subst (λ (x : Frame). Turns t m f old now a (left_over (Some x))) (sym same) c.loop-many.invariant.turns in
-    let less = so_far.less in
     passed_on c.from_residual.result c.in_err-read_row.field-0.0 _ c.from_residual.ensures.1 (turns_break t m f old now a rest so_far _ c.in_err-read_row.ensures.fault_is_true)
 
 pub loop-many-preserved-then-is_leaf : goal.loop-many-preserved-then-is_leaf
@@ -64,10 +59,7 @@ loop-many-preserved-then-is_leaf c =
     let now = at_of c.loop-many.state in
     let a = c.loop-many.state.steps - c.args.state.now.steps in
     let begun = c.loop-many.invariant.steps in
-    let rest = c.rows_from-rest.result in
     let same = c.rows_from-rest.ensures in
-    let so_far = subst (λ (x : Frame). Turns t m f old now a (left_over (Some x))) (sym same) c.loop-many.invariant.turns in
-    let less = so_far.less in
     let g = going_on c.loop-many.holder (Rows c.loop-many.next c.loop-many.many) c.loop-many.done in
     let new = at_of c.read_row.new.state in
     let spent = c.read_row.new.state.steps - c.loop-many.state.steps in
@@ -94,26 +86,13 @@ enter_box-requires-clause-frame c =
     let old = at_of c.args.state.now in
     let now = at_of c.loop-many.state in
     let a = c.loop-many.state.steps - c.args.state.now.steps in
-    let begun = c.loop-many.invariant.steps in
-    let rest = c.rows_from-rest.result in
     let same = c.rows_from-rest.ensures in
     let so_far = subst (λ (x : Frame). Turns t m f old now a (left_over (Some x))) (sym same) c.loop-many.invariant.turns in
-    let less = so_far.less in
     so_far.rest_fine.0
 
 pub enter_box-requires-clause-left : goal.enter_box-requires-clause-left
 enter_box-requires-clause-left c =
-    let t = c.args.self.now.table.now in
-    let m = message c.args.self.now in
-    let f = c.args.frame in
-    let old = at_of c.args.state.now in
-    let now = at_of c.loop-many.state in
-    let a = c.loop-many.state.steps - c.args.state.now.steps in
-    let begun = c.loop-many.invariant.steps in
-    let rest = c.rows_from-rest.result in
     let same = c.rows_from-rest.ensures in
-    let so_far = subst (λ (x : Frame). Turns t m f old now a (left_over (Some x))) (sym same) c.loop-many.invariant.turns in
-    let less = so_far.less in
     let box = c.ends_in_box.ensures c.if-not-ends_in_box.false in
     ap (λ (x : Frame). x.left) same ∙ ap (λ n. Rows c.loop-many.next n) box.0
 
@@ -124,17 +103,7 @@ enter_box-requires-clause-kind c =
 
 pub enter_box-requires-clause-whole : goal.enter_box-requires-clause-whole
 enter_box-requires-clause-whole c =
-    let t = c.args.self.now.table.now in
-    let m = message c.args.self.now in
-    let f = c.args.frame in
-    let old = at_of c.args.state.now in
-    let now = at_of c.loop-many.state in
-    let a = c.loop-many.state.steps - c.args.state.now.steps in
-    let begun = c.loop-many.invariant.steps in
-    let rest = c.rows_from-rest.result in
     let same = c.rows_from-rest.ensures in
-    let so_far = subst (λ (x : Frame). Turns t m f old now a (left_over (Some x))) (sym same) c.loop-many.invariant.turns in
-    let less = so_far.less in
     let box = c.ends_in_box.ensures c.if-not-ends_in_box.false in
     box.2 ∙ ap (λ (x : Frame). x.size) (sym same)
 
@@ -146,11 +115,9 @@ returns-in_err-below-clause-fault_is_true c =
     let old = at_of c.args.state.now in
     let now = at_of c.loop-many.state in
     let a = c.loop-many.state.steps - c.args.state.now.steps in
-    let begun = c.loop-many.invariant.steps in
     let rest = c.rows_from-rest.result in
     let same = c.rows_from-rest.ensures in
     let so_far = subst (λ (x : Frame). Turns t m f old now a (left_over (Some x))) (sym same) c.loop-many.invariant.turns in
-    let less = so_far.less in
     passed_on c.from_residual-in_err-below.result c.in_err-below.field-0.0 _ c.from_residual-in_err-below.ensures.1 (turns_break t m f old now a rest so_far _ c.in_err-below.ensures.fault_is_true)
 
 pub returns-in_default-2-clause-ok : goal.returns-in_default-2-clause-ok
@@ -165,7 +132,6 @@ returns-in_default-2-clause-ok c =
     let rest = c.rows_from-rest.result in
     let same = c.rows_from-rest.ensures in
     let so_far = subst (λ (x : Frame). Turns t m f old now a (left_over (Some x))) (sym same) c.loop-many.invariant.turns in
-    let less = so_far.less in
     let new = at_of c.enter_box.new.state in
     let spent = c.enter_box.new.state.steps - c.loop-many.state.steps in
     let all = c.enter_box.new.state.steps - c.args.state.now.steps in
@@ -185,7 +151,6 @@ pass_known-content-requires-clause-frame c =
     let rest = c.rows_from-rest.result in
     let same = c.rows_from-rest.ensures in
     let so_far = subst (λ (x : Frame). Turns t m f old now a (left_over (Some x))) (sym same) c.loop-many.invariant.turns in
-    let less = so_far.less in
     let new = at_of c.enter_box.new.state in
     let spent = c.enter_box.new.state.steps - c.loop-many.state.steps in
     let all = c.enter_box.new.state.steps - c.args.state.now.steps in
@@ -206,7 +171,6 @@ pass_known-content-requires-clause-state c =
     let rest = c.rows_from-rest.result in
     let same = c.rows_from-rest.ensures in
     let so_far = subst (λ (x : Frame). Turns t m f old now a (left_over (Some x))) (sym same) c.loop-many.invariant.turns in
-    let less = so_far.less in
     let new = at_of c.enter_box.new.state in
     let spent = c.enter_box.new.state.steps - c.loop-many.state.steps in
     let all = c.enter_box.new.state.steps - c.args.state.now.steps in
@@ -227,7 +191,6 @@ pass_known-content-requires-clause-budget c =
     let rest = c.rows_from-rest.result in
     let same = c.rows_from-rest.ensures in
     let so_far = subst (λ (x : Frame). Turns t m f old now a (left_over (Some x))) (sym same) c.loop-many.invariant.turns in
-    let less = so_far.less in
     let new = at_of c.enter_box.new.state in
     let spent = c.enter_box.new.state.steps - c.loop-many.state.steps in
     let all = c.enter_box.new.state.steps - c.args.state.now.steps in
@@ -249,7 +212,6 @@ returns-in_default-left c =
     let rest = c.rows_from-rest.result in
     let same = c.rows_from-rest.ensures in
     let so_far = subst (λ (x : Frame). Turns t m f old now a (left_over (Some x))) (sym same) c.loop-many.invariant.turns in
-    let less = so_far.less in
     let new = at_of c.enter_box.new.state in
     let spent = c.enter_box.new.state.steps - c.loop-many.state.steps in
     let all = c.enter_box.new.state.steps - c.args.state.now.steps in
@@ -268,21 +230,13 @@ pub loop-many-smaller : goal.loop-many-smaller
 loop-many-smaller c =
     let t = c.args.self.now.table.now in
     let m = message c.args.self.now in
-    let f = c.args.frame in
-    let old = at_of c.args.state.now in
     let now = at_of c.loop-many.state in
-    let a = c.loop-many.state.steps - c.args.state.now.steps in
-    let begun = c.loop-many.invariant.steps in
     let rest = c.rows_from-rest.result in
     let same = c.rows_from-rest.ensures in
-    let so_far = subst (λ (x : Frame). Turns t m f old now a (left_over (Some x))) (sym same) c.loop-many.invariant.turns in
-    let less = so_far.less in
     let new = at_of c.enter_box.new.state in
     let spent = c.enter_box.new.state.steps - c.loop-many.state.steps in
-    let all = c.enter_box.new.state.steps - c.args.state.now.steps in
     let rises = (one_more _ _ _ c.in_ok-below.ensures.spends) in
     let two = subst (λ (o : Option Frame). Turns t m rest now new spent (left_over o)) c.in-Some-2.is c.in_ok-below.ensures.ok in
-    let run = turns_then t m f old now a rest so_far new spent all (left_over (Some c.in-Some-2.below)) (omega (arith, begun, rises)) two in
     let passed = c.pass_known-content.ensures.grows in
     let three = subst (λ (x : Frame). Turns t m x now new spent (left_over (Some c.in-Some-2.below))) same two in
     let less_three = three.less in
@@ -301,7 +255,6 @@ loop-many-preserved c =
     let rest = c.rows_from-rest.result in
     let same = c.rows_from-rest.ensures in
     let so_far = subst (λ (x : Frame). Turns t m f old now a (left_over (Some x))) (sym same) c.loop-many.invariant.turns in
-    let less = so_far.less in
     let new = at_of c.enter_box.new.state in
     let spent = c.enter_box.new.state.steps - c.loop-many.state.steps in
     let all = c.enter_box.new.state.steps - c.args.state.now.steps in
@@ -324,13 +277,10 @@ end_rows-requires-clause-frame c =
     let old = at_of c.args.state.now in
     let now = at_of c.loop-many.state in
     let a = c.loop-many.state.steps - c.args.state.now.steps in
-    let begun = c.loop-many.invariant.steps in
-    let rest = c.rows_from.result in
     let same = c.rows_from.ensures in
     let none : c.loop-many.many ≡ 0 = omega (arith, c.loop-many-test.false) in
     let over = subst (λ n. Turns t m f old now a (left_over (Some (going_on c.loop-many.holder (Rows c.loop-many.next n) c.loop-many.done)))) none c.loop-many.invariant.turns in
     let so_far = subst (λ (x : Frame). Turns t m f old now a (left_over (Some x))) (sym same) over in
-    let less = so_far.less in
     so_far.rest_fine.0
 
 pub returns-in_err-end_rows-clause-fault_is_true : goal.returns-in_err-end_rows-clause-fault_is_true
@@ -341,7 +291,6 @@ returns-in_err-end_rows-clause-fault_is_true c =
     let old = at_of c.args.state.now in
     let now = at_of c.loop-many.state in
     let a = c.loop-many.state.steps - c.args.state.now.steps in
-    let begun = c.loop-many.invariant.steps in
     let rest = c.rows_from.result in
     let same = c.rows_from.ensures in
     let none : c.loop-many.many ≡ 0 = omega (arith, c.loop-many-test.false) in
@@ -531,15 +480,8 @@ pub loop-many-smaller-then-is_leaf : goal.loop-many-smaller-then-is_leaf
 loop-many-smaller-then-is_leaf c =
     let t = c.args.self.now.table.now in
     let m = message c.args.self.now in
-    let f = c.args.frame in
-    let old = at_of c.args.state.now in
     let now = at_of c.loop-many.state in
-    let a = c.loop-many.state.steps - c.args.state.now.steps in
-    let begun = c.loop-many.invariant.steps in
-    let rest = c.rows_from-rest.result in
     let same = c.rows_from-rest.ensures in
-    let so_far = subst (λ (x : Frame). Turns t m f old now a (left_over (Some x))) (sym same) c.loop-many.invariant.turns in
-    let less = so_far.less in
     let g = going_on c.loop-many.holder (Rows c.loop-many.next c.loop-many.many) c.loop-many.done in
     let new = at_of c.read_row.new.state in
     let spent = c.read_row.new.state.steps - c.loop-many.state.steps in
@@ -573,11 +515,9 @@ read_row-requires-clause-ready c =
     let old = at_of c.args.state.now in
     let now = at_of c.loop-many.state in
     let a = c.loop-many.state.steps - c.args.state.now.steps in
-    let begun = c.loop-many.invariant.steps in
     let rest = c.rows_from-rest.result in
     let same = c.rows_from-rest.ensures in
     let so_far = subst (λ (x : Frame). Turns t m f old now a (left_over (Some x))) (sym same) c.loop-many.invariant.turns in
-    let less = so_far.less in
     rest_ready t m f old now a rest so_far c.requires.ready
 
 pub enter_box-requires-clause-ready : goal.enter_box-requires-clause-ready
@@ -588,11 +528,9 @@ enter_box-requires-clause-ready c =
     let old = at_of c.args.state.now in
     let now = at_of c.loop-many.state in
     let a = c.loop-many.state.steps - c.args.state.now.steps in
-    let begun = c.loop-many.invariant.steps in
     let rest = c.rows_from-rest.result in
     let same = c.rows_from-rest.ensures in
     let so_far = subst (λ (x : Frame). Turns t m f old now a (left_over (Some x))) (sym same) c.loop-many.invariant.turns in
-    let less = so_far.less in
     rest_ready t m f old now a rest so_far c.requires.ready
 
 pub end_rows-requires-clause-ready : goal.end_rows-requires-clause-ready
@@ -603,13 +541,11 @@ end_rows-requires-clause-ready c =
     let old = at_of c.args.state.now in
     let now = at_of c.loop-many.state in
     let a = c.loop-many.state.steps - c.args.state.now.steps in
-    let begun = c.loop-many.invariant.steps in
     let rest = c.rows_from.result in
     let same = c.rows_from.ensures in
     let none : c.loop-many.many ≡ 0 = omega (arith, c.loop-many-test.false) in
     let over = subst (λ n. Turns t m f old now a (left_over (Some (going_on c.loop-many.holder (Rows c.loop-many.next n) c.loop-many.done)))) none c.loop-many.invariant.turns in
     let so_far = subst (λ (x : Frame). Turns t m f old now a (left_over (Some x))) (sym same) over in
-    let less = so_far.less in
     rest_ready t m f old now a rest so_far c.requires.ready
 
 pub pass_known-content-requires-clause-ready : goal.pass_known-content-requires-clause-ready
@@ -624,7 +560,6 @@ pass_known-content-requires-clause-ready c =
     let rest = c.rows_from-rest.result in
     let same = c.rows_from-rest.ensures in
     let so_far = subst (λ (x : Frame). Turns t m f old now a (left_over (Some x))) (sym same) c.loop-many.invariant.turns in
-    let less = so_far.less in
     let new = at_of c.enter_box.new.state in
     let spent = c.enter_box.new.state.steps - c.loop-many.state.steps in
     let all = c.enter_box.new.state.steps - c.args.state.now.steps in

@@ -19,8 +19,6 @@ returns-in_default-clause-ok c =
 
 pub returns-in_default-clause-ended : goal.returns-in_default-clause-ended
 returns-in_default-clause-ended c =
-    let t = c.args.self.now.table.now in
-    let m = message c.args.self.now in
     subst (λ (o : Option Frame). IfNone o (c.args.state.now.steps < c.read_nested.new.state.steps)) c.in_default.is c.in_ok-now.ensures.ended
 
 pub returns-in_default-left : goal.returns-in_default-left
@@ -115,16 +113,12 @@ returns-in_default-2-clause-ok c =
 
 pub returns-in_default-2-clause-grows : goal.returns-in_default-2-clause-grows
 returns-in_default-2-clause-grows c =
-    let t = c.args.self.now.table.now in
-    let m = message c.args.self.now in
     let rows_on = c.in_ok-now.ensures.grows in
     let last_on = c.in_ok-below.ensures.grows in
     omega (arith, rows_on, last_on)
 
 pub returns-in_default-2-clause-ended : goal.returns-in_default-2-clause-ended
 returns-in_default-2-clause-ended c =
-    let t = c.args.self.now.table.now in
-    let m = message c.args.self.now in
     let rows_on = c.in_ok-now.ensures.grows in
     let ended : c.read_nested.new.state.steps < c.read_last.new.state.steps = subst (λ (o : Option Frame). IfNone o (c.read_nested.new.state.steps < c.read_last.new.state.steps)) c.in_default-2.is c.in_ok-below.ensures.ended in
     omega (arith, rows_on, ended)
@@ -158,7 +152,6 @@ read_leaves-requires-clause-frame c =
     (c.read_nested.new.state.steps - c.args.state.now.steps) c.in-Some.now one (at_of c.read_last.new.state)
     (c.read_last.new.state.steps - c.read_nested.new.state.steps) (c.read_last.new.state.steps - c.args.state.now.steps)
     (left_over (Some c.in-Some-2.below)) (omega (arith, rows_on, last_on)) two in
-    let less_held = held.less in
     held.rest_fine.0
 
 pub read_leaves-requires-clause-state : goal.read_leaves-requires-clause-state
@@ -179,7 +172,6 @@ read_leaves-requires-clause-state c =
     (c.read_nested.new.state.steps - c.args.state.now.steps) c.in-Some.now one (at_of c.read_last.new.state)
     (c.read_last.new.state.steps - c.read_nested.new.state.steps) (c.read_last.new.state.steps - c.args.state.now.steps)
     (left_over (Some c.in-Some-2.below)) (omega (arith, rows_on, last_on)) two in
-    let less_held = held.less in
     held.state
 
 pub read_leaves-requires-clause-budget : goal.read_leaves-requires-clause-budget
@@ -242,7 +234,6 @@ returns-in_err-inner-clause-fault_is_true c =
     (c.read_nested.new.state.steps - c.args.state.now.steps) c.in-Some.now one (at_of c.read_last.new.state)
     (c.read_last.new.state.steps - c.read_nested.new.state.steps) (c.read_last.new.state.steps - c.args.state.now.steps)
     (left_over (Some c.in-Some-2.below)) (omega (arith, rows_on, last_on)) two in
-    let less_held = held.less in
     passed_on c.from_residual-in_err-inner.result c.in_err-inner.field-0.0 _ c.from_residual-in_err-inner.ensures.1
     (turns_break t m c.args.frame (at_of c.args.state.now) (at_of c.read_last.new.state) (c.read_last.new.state.steps - c.args.state.now.steps)
     c.in-Some-2.below held c.in_err-inner.field-0.0 c.in_err-inner.ensures.fault_is_true)
@@ -265,7 +256,6 @@ returns-clause-ok c =
     (c.read_nested.new.state.steps - c.args.state.now.steps) c.in-Some.now one (at_of c.read_last.new.state)
     (c.read_last.new.state.steps - c.read_nested.new.state.steps) (c.read_last.new.state.steps - c.args.state.now.steps)
     (left_over (Some c.in-Some-2.below)) (omega (arith, rows_on, last_on)) two in
-    let less_held = held.less in
     let leaves_on = c.in_ok-inner.ensures.grows in
     turns_then t m c.args.frame (at_of c.args.state.now) (at_of c.read_last.new.state) (c.read_last.new.state.steps - c.args.state.now.steps)
     c.in-Some-2.below held (at_of c.read_leaves.new.state) (c.read_leaves.new.state.steps - c.read_last.new.state.steps)
@@ -274,8 +264,6 @@ returns-clause-ok c =
 
 pub returns-clause-grows : goal.returns-clause-grows
 returns-clause-grows c =
-    let t = c.args.self.now.table.now in
-    let m = message c.args.self.now in
     let rows_on = c.in_ok-now.ensures.grows in
     let last_on = c.in_ok-below.ensures.grows in
     let leaves_on = c.in_ok-inner.ensures.grows in
@@ -283,8 +271,6 @@ returns-clause-grows c =
 
 pub returns-clause-ended : goal.returns-clause-ended
 returns-clause-ended c =
-    let t = c.args.self.now.table.now in
-    let m = message c.args.self.now in
     let rows_on = c.in_ok-now.ensures.grows in
     let last_on = c.in_ok-below.ensures.grows in
     none_weaker c.in_ok-inner.inner _ _ (λ lt. omega (arith, rows_on, last_on, lt)) c.in_ok-inner.ensures.ended
@@ -328,5 +314,4 @@ read_leaves-requires-clause-ready c =
     (c.read_nested.new.state.steps - c.args.state.now.steps) c.in-Some.now one (at_of c.read_last.new.state)
     (c.read_last.new.state.steps - c.read_nested.new.state.steps) (c.read_last.new.state.steps - c.args.state.now.steps)
     (left_over (Some c.in-Some-2.below)) (omega (arith, rows_on, last_on)) two in
-    let less_held = held.less in
     rest_ready t m c.args.frame (at_of c.args.state.now) (at_of c.read_last.new.state) (c.read_last.new.state.steps - c.args.state.now.steps) c.in-Some-2.below held c.requires.ready

@@ -8,7 +8,7 @@ use Rattle.fidl_decode.proofs.decoder.Decoder.read_structs.Given as goal
 
 -- what is read so far is a turn that leaves the frame from this element on
 abbrev pub invariant-loop-i : goal.invariant-loop-i
-invariant-loop-i l = record {
+invariant-loop-i g l = record {
   holds : l.state.links.came ≡ l.self.bytes.value.came;
   turns : Turns l.self.table.now (message l.self) l.frame (at_of l.fn.state) (at_of l.state) (l.state.steps - l.fn.state.steps) (left_over (Some (going_on l.frame (Elements l.entry l.size (l.count - l.i)) l.done)));
   steps : l.fn.state.steps ≤ l.state.steps;

@@ -180,8 +180,6 @@ returns-clause-ok c =
 
 pub returns-clause-rises : goal.returns-clause-rises
 returns-clause-rises c =
-    let t = c.args.self.now.table.now in
-    let m = message c.args.self.now in
     let grows = (not_fewer _ _ _ c.in_ok-read_flat.ensures.spends) in
     omega (arith, grows)
 

@@ -47,7 +47,6 @@ read_member-requires-clause-budget c =
     let some = c.requires.some in
     let room = envelope_room t c.args.self.now.fine m (c.args.self.now.short, c.requires.state.few) f c.args.entry c.args.read c.args.count old gf c.requires.state (c.args.read + 1) (c.args.count - 1) (add-one c.args.read) (omega (arith, some)) some in
     let few = c.row_of-member.ensures.few in
-    let grows = c.row_of-member.ensures.grows in
     omega (arith, room, few, c.requires.budget)
 
 pub returns-clause-ok : goal.returns-clause-ok
@@ -59,7 +58,6 @@ returns-clause-ok c =
     let same = same_frame f (Envelopes c.args.entry c.args.read c.args.count) c.requires.left in
     let gf = subst (λ (f : Frame). FrameFine t m.bytes f) same c.requires.frame in
     let some = c.requires.some in
-    let room = envelope_room t c.args.self.now.fine m (c.args.self.now.short, c.requires.state.few) f c.args.entry c.args.read c.args.count old gf c.requires.state (c.args.read + 1) (c.args.count - 1) (add-one c.args.read) (omega (arith, some)) some in
     let few = c.row_of-member.ensures.few in
     let grows = c.row_of-member.ensures.grows in
     let place = f.base + f.done in
@@ -81,15 +79,6 @@ returns-clause-ok c =
 
 pub returns-clause-rises : goal.returns-clause-rises
 returns-clause-rises c =
-    let t = c.args.self.now.table.now in
-    let m = message c.args.self.now in
-    let f = c.args.frame in
-    let old = at_of c.args.state.now in
-    let same = same_frame f (Envelopes c.args.entry c.args.read c.args.count) c.requires.left in
-    let gf = subst (λ (f : Frame). FrameFine t m.bytes f) same c.requires.frame in
-    let some = c.requires.some in
-    let room = envelope_room t c.args.self.now.fine m (c.args.self.now.short, c.requires.state.few) f c.args.entry c.args.read c.args.count old gf c.requires.state (c.args.read + 1) (c.args.count - 1) (add-one c.args.read) (omega (arith, some)) some in
-    let few = c.row_of-member.ensures.few in
     let grows = c.row_of-member.ensures.grows in
     on_ok_from c.read_member.result (λ more. omega (arith, grows, more)) c.read_member.ensures.grows
 
@@ -104,7 +93,6 @@ returns-clause-cost c =
     let some = c.requires.some in
     let room = envelope_room t c.args.self.now.fine m (c.args.self.now.short, c.requires.state.few) f c.args.entry c.args.read c.args.count old gf c.requires.state (c.args.read + 1) (c.args.count - 1) (add-one c.args.read) (omega (arith, some)) some in
     let few = c.row_of-member.ensures.few in
-    let grows = c.row_of-member.ensures.grows in
     omega (arith, room, few, c.read_member.ensures.cost)
 
 pub returns-clause-fault_is_true : goal.returns-clause-fault_is_true
@@ -116,15 +104,9 @@ returns-clause-fault_is_true c =
     let same = same_frame f (Envelopes c.args.entry c.args.read c.args.count) c.requires.left in
     let gf = subst (λ (f : Frame). FrameFine t m.bytes f) same c.requires.frame in
     let some = c.requires.some in
-    let room = envelope_room t c.args.self.now.fine m (c.args.self.now.short, c.requires.state.few) f c.args.entry c.args.read c.args.count old gf c.requires.state (c.args.read + 1) (c.args.count - 1) (add-one c.args.read) (omega (arith, some)) some in
-    let few = c.row_of-member.ensures.few in
-    let grows = c.row_of-member.ensures.grows in
     let place = f.base + f.done in
     let there : Stands m.bytes place (zeros 8) → ⊥ = λ z. no_true (sym c.if-is_absent.false ∙ c.is_absent.ensures.1 z) in
     let is = ap (λ n. find (members_of t c.args.entry) n) (sym (add-one c.args.read)) ∙ member_found (members_of t c.args.entry) (c.args.read + 1) c.row_of-member.result c.row_of-member.ensures.none c.row_of-member.ensures.some in
-    let new = at_of c.read_member.new.state in
-    let spent = c.read_member.new.state.steps - c.row_of-member.new.probes in
-    let all = c.read_member.new.state.steps - c.args.state.now.steps in
     IfErr-weaker c.read_member.result _ _
     (λ fault b. subst (λ (g : Frame). BreaksFrame t m g old fault) (sym same)
     (envelope_breaks t c.args.self.now.fine m (c.args.self.now.short, c.requires.state.few) f c.args.entry c.args.read c.args.count old gf

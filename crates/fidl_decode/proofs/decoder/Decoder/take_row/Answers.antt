@@ -34,17 +34,14 @@ overflow_add-front c =
     let before = room.0 in
     let fits = room.1 in
     let within = room.2 in
-    let work = room.3 in
     record { fits = omega (arith, before, fits, within, c.args.self.now.short) }
 
 pub overflow_add-place : goal.overflow_add-place
 overflow_add-place c =
     let room = front_room c.args.self.now.table.now c.args.self.now.fine (message c.args.self.now) c.args.frame c.args.first c.args.count c.row-row.result
     c.requires.left (some_left c.args.count c.if-count-eq0.false) c.row-row.ensures.value (at_of c.args.state.now) c.requires.frame c.requires.state in
-    let before = room.0 in
     let fits = room.1 in
     let within = room.2 in
-    let work = room.3 in
     record { fits = omega (arith, fits, within, c.args.self.now.short) }
 
 pub overflow_sub-state : goal.overflow_sub-state
@@ -52,29 +49,22 @@ overflow_sub-state c =
     let room = front_room c.args.self.now.table.now c.args.self.now.fine (message c.args.self.now) c.args.frame c.args.first c.args.count c.row-row.result
     c.requires.left (some_left c.args.count c.if-count-eq0.false) c.row-row.ensures.value (at_of c.args.state.now) c.requires.frame c.requires.state in
     let before = room.0 in
-    let fits = room.1 in
-    let within = room.2 in
-    let work = room.3 in
     omega (arith, before)
 
 pub overflow_add-state : goal.overflow_add-state
 overflow_add-state c =
     let room = front_room c.args.self.now.table.now c.args.self.now.fine (message c.args.self.now) c.args.frame c.args.first c.args.count c.row-row.result
     c.requires.left (some_left c.args.count c.if-count-eq0.false) c.row-row.ensures.value (at_of c.args.state.now) c.requires.frame c.requires.state in
-    let before = room.0 in
     let fits = room.1 in
     let within = room.2 in
-    let work = room.3 in
     record { fits = omega (arith, fits, within, c.args.self.now.short) }
 
 pub overflow_add-state-2 : goal.overflow_add-state-2
 overflow_add-state-2 c =
     let room = front_room c.args.self.now.table.now c.args.self.now.fine (message c.args.self.now) c.args.frame c.args.first c.args.count c.row-row.result
     c.requires.left (some_left c.args.count c.if-count-eq0.false) c.row-row.ensures.value (at_of c.args.state.now) c.requires.frame c.requires.state in
-    let before = room.0 in
     let fits = room.1 in
     let within = room.2 in
-    let work = room.3 in
     record { fits = omega (arith, fits, within, c.args.self.now.short, c.requires.budget) }
 
 pub zeros_at-requires-clause-order : goal.zeros_at-requires-clause-order
@@ -82,29 +72,22 @@ zeros_at-requires-clause-order c =
     let room = front_room c.args.self.now.table.now c.args.self.now.fine (message c.args.self.now) c.args.frame c.args.first c.args.count c.row-row.result
     c.requires.left (some_left c.args.count c.if-count-eq0.false) c.row-row.ensures.value (at_of c.args.state.now) c.requires.frame c.requires.state in
     let before = room.0 in
-    let fits = room.1 in
-    let within = room.2 in
-    let work = room.3 in
     omega (arith, before)
 
 pub zeros_at-requires-clause-room : goal.zeros_at-requires-clause-room
 zeros_at-requires-clause-room c =
     let room = front_room c.args.self.now.table.now c.args.self.now.fine (message c.args.self.now) c.args.frame c.args.first c.args.count c.row-row.result
     c.requires.left (some_left c.args.count c.if-count-eq0.false) c.row-row.ensures.value (at_of c.args.state.now) c.requires.frame c.requires.state in
-    let before = room.0 in
     let fits = room.1 in
     let within = room.2 in
-    let work = room.3 in
     omega (arith, fits, within)
 
 pub visit-requires-clause-room : goal.visit-requires-clause-room
 visit-requires-clause-room c =
     let room = front_room c.args.self.now.table.now c.args.self.now.fine (message c.args.self.now) c.args.frame c.args.first c.args.count c.row-row.result
     c.requires.left (some_left c.args.count c.if-count-eq0.false) c.row-row.ensures.value (at_of c.args.state.now) c.requires.frame c.requires.state in
-    let before = room.0 in
     let fits = room.1 in
     let within = room.2 in
-    let work = room.3 in
     omega (arith, fits, within)
 
 pub visit-requires-clause-in_envelope : goal.visit-requires-clause-in_envelope
@@ -116,10 +99,8 @@ pub visit-requires-clause-budget : goal.visit-requires-clause-budget
 visit-requires-clause-budget c =
     let room = front_room c.args.self.now.table.now c.args.self.now.fine (message c.args.self.now) c.args.frame c.args.first c.args.count c.row-row.result
     c.requires.left (some_left c.args.count c.if-count-eq0.false) c.row-row.ensures.value (at_of c.args.state.now) c.requires.frame c.requires.state in
-    let before = room.0 in
     let fits = room.1 in
     let within = room.2 in
-    let work = room.3 in
     omega (arith, fits, within, c.args.self.now.short, c.requires.budget)
 
 pub returns-in_err-zeros_at-clause-spends : goal.returns-in_err-zeros_at-clause-spends
@@ -127,8 +108,6 @@ returns-in_err-zeros_at-clause-spends c =
     let room = front_room c.args.self.now.table.now c.args.self.now.fine (message c.args.self.now) c.args.frame c.args.first c.args.count c.row-row.result
     c.requires.left (some_left c.args.count c.if-count-eq0.false) c.row-row.ensures.value (at_of c.args.state.now) c.requires.frame c.requires.state in
     let before = room.0 in
-    let fits = room.1 in
-    let within = room.2 in
     let work = room.3 in
     spends_some _ _ _ (omega arith) (omega (arith, work, before))
 
@@ -143,8 +122,6 @@ returns-in_err-below-clause-spends c =
     let room = front_room c.args.self.now.table.now c.args.self.now.fine (message c.args.self.now) c.args.frame c.args.first c.args.count c.row-row.result
     c.requires.left (some_left c.args.count c.if-count-eq0.false) c.row-row.ensures.value (at_of c.args.state.now) c.requires.frame c.requires.state in
     let before = room.0 in
-    let fits = room.1 in
-    let within = room.2 in
     let work = room.3 in
     let more = c.in_err-below.ensures.spends in
     spends_some _ _ _ (omega (arith, more.least)) (omega (arith, work, before, more.most))
@@ -159,10 +136,8 @@ pub overflow_add-done : goal.overflow_add-done
 overflow_add-done c =
     let room = front_room c.args.self.now.table.now c.args.self.now.fine (message c.args.self.now) c.args.frame c.args.first c.args.count c.row-row.result
     c.requires.left (some_left c.args.count c.if-count-eq0.false) c.row-row.ensures.value (at_of c.args.state.now) c.requires.frame c.requires.state in
-    let before = room.0 in
     let fits = room.1 in
     let within = room.2 in
-    let work = room.3 in
     let is = ap (λ (d : Entry). d.size) c.entry.ensures.value in
     record { fits = omega (arith, is, fits, within, c.args.self.now.short) }
 
@@ -191,8 +166,6 @@ returns-clause-spends c =
     let room = front_room c.args.self.now.table.now c.args.self.now.fine (message c.args.self.now) c.args.frame c.args.first c.args.count c.row-row.result
     c.requires.left (some_left c.args.count c.if-count-eq0.false) c.row-row.ensures.value (at_of c.args.state.now) c.requires.frame c.requires.state in
     let before = room.0 in
-    let fits = room.1 in
-    let within = room.2 in
     let work = room.3 in
     let more = c.in_ok-below.ensures.spends in
     spends_some _ _ _ (omega (arith, more.least)) (omega (arith, work, before, more.most))

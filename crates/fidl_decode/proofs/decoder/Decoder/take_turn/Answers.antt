@@ -45,20 +45,17 @@ returns-in_err-now-clause-cost c =
 pub returns-in_default-clause-ok : goal.returns-in_default-clause-ok
 returns-in_default-clause-ok c =
     let so_far = c.loop-now.invariant.steps in
-    let less = c.loop-now.invariant.turns.less in
     let grows = c.in_ok-now.ensures.grows in
     let two = subst (λ (o : Option Frame). Turns c.args.self.now.table.now (message c.args.self.now) c.loop-now.rest (at_of c.loop-now.state) (at_of c.read_leaves.new.state) (c.read_leaves.new.state.steps - c.loop-now.state.steps) (left_over o)) c.in_default.is c.in_ok-now.ensures.ok in
     let held : Turns c.args.self.now.table.now (message c.args.self.now) c.args.frame (at_of c.args.state.now) (at_of c.read_leaves.new.state)
     (c.read_leaves.new.state.steps - c.args.state.now.steps) (left_over None) = turns_then c.args.self.now.table.now (message c.args.self.now)
     c.args.frame (at_of c.args.state.now) (at_of c.loop-now.state) (c.loop-now.state.steps - c.args.state.now.steps) c.loop-now.rest
     c.loop-now.invariant.turns (at_of c.read_leaves.new.state) _ _ (left_over None) (omega (arith, so_far, grows)) two in
-    let less_now = held.less in
     held
 
 pub returns-in_default-clause-rises : goal.returns-in_default-clause-rises
 returns-in_default-clause-rises c =
     let so_far = c.loop-now.invariant.steps in
-    let less = c.loop-now.invariant.turns.less in
     let ended : c.loop-now.state.steps < c.read_leaves.new.state.steps = subst (λ (o : Option Frame). IfNone o (c.loop-now.state.steps < c.read_leaves.new.state.steps)) c.in_default.is c.in_ok-now.ensures.ended in
     omega (arith, so_far, ended)
 
@@ -71,7 +68,6 @@ returns-in_default-clause-cost c =
 pub take_member-requires-clause-frame : goal.take_member-requires-clause-frame
 take_member-requires-clause-frame c =
     let so_far = c.loop-now.invariant.steps in
-    let less = c.loop-now.invariant.turns.less in
     let grows = c.in_ok-now.ensures.grows in
     let two = subst (λ (o : Option Frame). Turns c.args.self.now.table.now (message c.args.self.now) c.loop-now.rest (at_of c.loop-now.state) (at_of c.read_leaves.new.state) (c.read_leaves.new.state.steps - c.loop-now.state.steps) (left_over o)) c.in-Some.is c.in_ok-now.ensures.ok in
     let held : Turns c.args.self.now.table.now (message c.args.self.now) c.args.frame (at_of c.args.state.now) (at_of c.read_leaves.new.state)
@@ -79,13 +75,11 @@ take_member-requires-clause-frame c =
     (message c.args.self.now) c.args.frame (at_of c.args.state.now) (at_of c.loop-now.state) (c.loop-now.state.steps - c.args.state.now.steps)
     c.loop-now.rest c.loop-now.invariant.turns (at_of c.read_leaves.new.state) _ _ (left_over (Some c.in-Some.now)) (omega (arith, so_far, grows))
     two in
-    let less_now = held.less in
     held.rest_fine.0
 
 pub take_member-requires-clause-state : goal.take_member-requires-clause-state
 take_member-requires-clause-state c =
     let so_far = c.loop-now.invariant.steps in
-    let less = c.loop-now.invariant.turns.less in
     let grows = c.in_ok-now.ensures.grows in
     let two = subst (λ (o : Option Frame). Turns c.args.self.now.table.now (message c.args.self.now) c.loop-now.rest (at_of c.loop-now.state) (at_of c.read_leaves.new.state) (c.read_leaves.new.state.steps - c.loop-now.state.steps) (left_over o)) c.in-Some.is c.in_ok-now.ensures.ok in
     let held : Turns c.args.self.now.table.now (message c.args.self.now) c.args.frame (at_of c.args.state.now) (at_of c.read_leaves.new.state)
@@ -93,13 +87,11 @@ take_member-requires-clause-state c =
     (message c.args.self.now) c.args.frame (at_of c.args.state.now) (at_of c.loop-now.state) (c.loop-now.state.steps - c.args.state.now.steps)
     c.loop-now.rest c.loop-now.invariant.turns (at_of c.read_leaves.new.state) _ _ (left_over (Some c.in-Some.now)) (omega (arith, so_far, grows))
     two in
-    let less_now = held.less in
     held.state
 
 pub take_member-requires-clause-budget : goal.take_member-requires-clause-budget
 take_member-requires-clause-budget c =
     let so_far = c.loop-now.invariant.steps in
-    let less = c.loop-now.invariant.turns.less in
     let grows = c.in_ok-now.ensures.grows in
     let two = subst (λ (o : Option Frame). Turns c.args.self.now.table.now (message c.args.self.now) c.loop-now.rest (at_of c.loop-now.state) (at_of c.read_leaves.new.state) (c.read_leaves.new.state.steps - c.loop-now.state.steps) (left_over o)) c.in-Some.is c.in_ok-now.ensures.ok in
     let held : Turns c.args.self.now.table.now (message c.args.self.now) c.args.frame (at_of c.args.state.now) (at_of c.read_leaves.new.state)
@@ -113,7 +105,6 @@ take_member-requires-clause-budget c =
 pub returns-in_err-turn-clause-cost : goal.returns-in_err-turn-clause-cost
 returns-in_err-turn-clause-cost c =
     let so_far = c.loop-now.invariant.steps in
-    let less = c.loop-now.invariant.turns.less in
     let grows = c.in_ok-now.ensures.grows in
     let two = subst (λ (o : Option Frame). Turns c.args.self.now.table.now (message c.args.self.now) c.loop-now.rest (at_of c.loop-now.state) (at_of c.read_leaves.new.state) (c.read_leaves.new.state.steps - c.loop-now.state.steps) (left_over o)) c.in-Some.is c.in_ok-now.ensures.ok in
     let held : Turns c.args.self.now.table.now (message c.args.self.now) c.args.frame (at_of c.args.state.now) (at_of c.read_leaves.new.state)
@@ -127,7 +118,6 @@ returns-in_err-turn-clause-cost c =
 pub returns-in_default-rest-clause-ok : goal.returns-in_default-rest-clause-ok
 returns-in_default-rest-clause-ok c =
     let so_far = c.loop-now.invariant.steps in
-    let less = c.loop-now.invariant.turns.less in
     let grows = c.in_ok-now.ensures.grows in
     let two = subst (λ (o : Option Frame). Turns c.args.self.now.table.now (message c.args.self.now) c.loop-now.rest (at_of c.loop-now.state) (at_of c.read_leaves.new.state) (c.read_leaves.new.state.steps - c.loop-now.state.steps) (left_over o)) c.in-Some.is c.in_ok-now.ensures.ok in
     let held : Turns c.args.self.now.table.now (message c.args.self.now) c.args.frame (at_of c.args.state.now) (at_of c.read_leaves.new.state)
@@ -135,7 +125,6 @@ returns-in_default-rest-clause-ok c =
     (message c.args.self.now) c.args.frame (at_of c.args.state.now) (at_of c.loop-now.state) (c.loop-now.state.steps - c.args.state.now.steps)
     c.loop-now.rest c.loop-now.invariant.turns (at_of c.read_leaves.new.state) _ _ (left_over (Some c.in-Some.now)) (omega (arith, so_far, grows))
     two in
-    let less_now = held.less in
     let rises = c.in_ok-turn.ensures.rises in
     let read : Turns c.args.self.now.table.now (message c.args.self.now) c.args.frame (at_of c.args.state.now) (at_of c.take_member.new.state)
     (c.take_member.new.state.steps - c.args.state.now.steps) c.in_ok-turn.turn = turns_then c.args.self.now.table.now (message c.args.self.now)
@@ -146,13 +135,11 @@ returns-in_default-rest-clause-ok c =
 pub returns-in_default-rest-clause-rises : goal.returns-in_default-rest-clause-rises
 returns-in_default-rest-clause-rises c =
     let so_far = c.loop-now.invariant.steps in
-    let less = c.loop-now.invariant.turns.less in
     omega (arith, so_far, c.in_ok-now.ensures.grows, c.in_ok-turn.ensures.rises)
 
 pub returns-in_default-rest-clause-cost : goal.returns-in_default-rest-clause-cost
 returns-in_default-rest-clause-cost c =
     let so_far = c.loop-now.invariant.steps in
-    let less = c.loop-now.invariant.turns.less in
     let grows = c.in_ok-now.ensures.grows in
     let two = subst (λ (o : Option Frame). Turns c.args.self.now.table.now (message c.args.self.now) c.loop-now.rest (at_of c.loop-now.state) (at_of c.read_leaves.new.state) (c.read_leaves.new.state.steps - c.loop-now.state.steps) (left_over o)) c.in-Some.is c.in_ok-now.ensures.ok in
     let held : Turns c.args.self.now.table.now (message c.args.self.now) c.args.frame (at_of c.args.state.now) (at_of c.read_leaves.new.state)
@@ -166,7 +153,6 @@ returns-in_default-rest-clause-cost c =
 pub read_leaves-requires-in-loop-now-clause-frame : goal.read_leaves-requires-in-loop-now-clause-frame
 read_leaves-requires-in-loop-now-clause-frame c =
     let so_far = c.loop-now.invariant.steps in
-    let less = c.loop-now.invariant.turns.less in
     let grows = c.in_ok-now.ensures.grows in
     let two = subst (λ (o : Option Frame). Turns c.args.self.now.table.now (message c.args.self.now) c.loop-now.rest (at_of c.loop-now.state) (at_of c.read_leaves.new.state) (c.read_leaves.new.state.steps - c.loop-now.state.steps) (left_over o)) c.in-Some.is c.in_ok-now.ensures.ok in
     let held : Turns c.args.self.now.table.now (message c.args.self.now) c.args.frame (at_of c.args.state.now) (at_of c.read_leaves.new.state)
@@ -174,7 +160,6 @@ read_leaves-requires-in-loop-now-clause-frame c =
     (message c.args.self.now) c.args.frame (at_of c.args.state.now) (at_of c.loop-now.state) (c.loop-now.state.steps - c.args.state.now.steps)
     c.loop-now.rest c.loop-now.invariant.turns (at_of c.read_leaves.new.state) _ _ (left_over (Some c.in-Some.now)) (omega (arith, so_far, grows))
     two in
-    let less_now = held.less in
     let rises = c.in_ok-turn.ensures.rises in
     let read : Turns c.args.self.now.table.now (message c.args.self.now) c.args.frame (at_of c.args.state.now) (at_of c.take_member.new.state)
     (c.take_member.new.state.steps - c.args.state.now.steps) c.in_ok-turn.turn = turns_then c.args.self.now.table.now (message c.args.self.now)
@@ -182,13 +167,11 @@ read_leaves-requires-in-loop-now-clause-frame c =
     held (at_of c.take_member.new.state) _ _ c.in_ok-turn.turn (omega (arith, so_far, grows, rises)) c.in_ok-turn.ensures.ok in
     let turn : c.in_ok-turn.turn ≡ record { below = Some c.in-Some-below.below; rest = Some c.in-Some-rest.after } = λ i. record { below = c.in-Some-below.is i; rest = c.in-Some-rest.is i } in
     let both = subst (λ (x : Turn). Turns c.args.self.now.table.now (message c.args.self.now) c.args.frame (at_of c.args.state.now) (at_of c.take_member.new.state) (c.take_member.new.state.steps - c.args.state.now.steps) x) turn read in
-    let less_both = both.less in
     both.below_fine.0
 
 pub read_leaves-requires-in-loop-now-clause-state : goal.read_leaves-requires-in-loop-now-clause-state
 read_leaves-requires-in-loop-now-clause-state c =
     let so_far = c.loop-now.invariant.steps in
-    let less = c.loop-now.invariant.turns.less in
     let grows = c.in_ok-now.ensures.grows in
     let two = subst (λ (o : Option Frame). Turns c.args.self.now.table.now (message c.args.self.now) c.loop-now.rest (at_of c.loop-now.state) (at_of c.read_leaves.new.state) (c.read_leaves.new.state.steps - c.loop-now.state.steps) (left_over o)) c.in-Some.is c.in_ok-now.ensures.ok in
     let held : Turns c.args.self.now.table.now (message c.args.self.now) c.args.frame (at_of c.args.state.now) (at_of c.read_leaves.new.state)
@@ -196,7 +179,6 @@ read_leaves-requires-in-loop-now-clause-state c =
     (message c.args.self.now) c.args.frame (at_of c.args.state.now) (at_of c.loop-now.state) (c.loop-now.state.steps - c.args.state.now.steps)
     c.loop-now.rest c.loop-now.invariant.turns (at_of c.read_leaves.new.state) _ _ (left_over (Some c.in-Some.now)) (omega (arith, so_far, grows))
     two in
-    let less_now = held.less in
     let rises = c.in_ok-turn.ensures.rises in
     let read : Turns c.args.self.now.table.now (message c.args.self.now) c.args.frame (at_of c.args.state.now) (at_of c.take_member.new.state)
     (c.take_member.new.state.steps - c.args.state.now.steps) c.in_ok-turn.turn = turns_then c.args.self.now.table.now (message c.args.self.now)
@@ -204,13 +186,11 @@ read_leaves-requires-in-loop-now-clause-state c =
     held (at_of c.take_member.new.state) _ _ c.in_ok-turn.turn (omega (arith, so_far, grows, rises)) c.in_ok-turn.ensures.ok in
     let turn : c.in_ok-turn.turn ≡ record { below = Some c.in-Some-below.below; rest = Some c.in-Some-rest.after } = λ i. record { below = c.in-Some-below.is i; rest = c.in-Some-rest.is i } in
     let both = subst (λ (x : Turn). Turns c.args.self.now.table.now (message c.args.self.now) c.args.frame (at_of c.args.state.now) (at_of c.take_member.new.state) (c.take_member.new.state.steps - c.args.state.now.steps) x) turn read in
-    let less_both = both.less in
     both.state
 
 pub read_leaves-requires-in-loop-now-clause-budget : goal.read_leaves-requires-in-loop-now-clause-budget
 read_leaves-requires-in-loop-now-clause-budget c =
     let so_far = c.loop-now.invariant.steps in
-    let less = c.loop-now.invariant.turns.less in
     let grows = c.in_ok-now.ensures.grows in
     let two = subst (λ (o : Option Frame). Turns c.args.self.now.table.now (message c.args.self.now) c.loop-now.rest (at_of c.loop-now.state) (at_of c.read_leaves.new.state) (c.read_leaves.new.state.steps - c.loop-now.state.steps) (left_over o)) c.in-Some.is c.in_ok-now.ensures.ok in
     let held : Turns c.args.self.now.table.now (message c.args.self.now) c.args.frame (at_of c.args.state.now) (at_of c.read_leaves.new.state)
@@ -218,7 +198,6 @@ read_leaves-requires-in-loop-now-clause-budget c =
     (message c.args.self.now) c.args.frame (at_of c.args.state.now) (at_of c.loop-now.state) (c.loop-now.state.steps - c.args.state.now.steps)
     c.loop-now.rest c.loop-now.invariant.turns (at_of c.read_leaves.new.state) _ _ (left_over (Some c.in-Some.now)) (omega (arith, so_far, grows))
     two in
-    let less_now = held.less in
     let rises = c.in_ok-turn.ensures.rises in
     let read : Turns c.args.self.now.table.now (message c.args.self.now) c.args.frame (at_of c.args.state.now) (at_of c.take_member.new.state)
     (c.take_member.new.state.steps - c.args.state.now.steps) c.in_ok-turn.turn = turns_then c.args.self.now.table.now (message c.args.self.now)
@@ -232,7 +211,6 @@ read_leaves-requires-in-loop-now-clause-budget c =
 pub returns-in_err-inner-clause-cost : goal.returns-in_err-inner-clause-cost
 returns-in_err-inner-clause-cost c =
     let so_far = c.loop-now.invariant.steps in
-    let less = c.loop-now.invariant.turns.less in
     let grows = c.in_ok-now.ensures.grows in
     let two = subst (λ (o : Option Frame). Turns c.args.self.now.table.now (message c.args.self.now) c.loop-now.rest (at_of c.loop-now.state) (at_of c.read_leaves.new.state) (c.read_leaves.new.state.steps - c.loop-now.state.steps) (left_over o)) c.in-Some.is c.in_ok-now.ensures.ok in
     let held : Turns c.args.self.now.table.now (message c.args.self.now) c.args.frame (at_of c.args.state.now) (at_of c.read_leaves.new.state)
@@ -240,7 +218,6 @@ returns-in_err-inner-clause-cost c =
     (message c.args.self.now) c.args.frame (at_of c.args.state.now) (at_of c.loop-now.state) (c.loop-now.state.steps - c.args.state.now.steps)
     c.loop-now.rest c.loop-now.invariant.turns (at_of c.read_leaves.new.state) _ _ (left_over (Some c.in-Some.now)) (omega (arith, so_far, grows))
     two in
-    let less_now = held.less in
     let rises = c.in_ok-turn.ensures.rises in
     let read : Turns c.args.self.now.table.now (message c.args.self.now) c.args.frame (at_of c.args.state.now) (at_of c.take_member.new.state)
     (c.take_member.new.state.steps - c.args.state.now.steps) c.in_ok-turn.turn = turns_then c.args.self.now.table.now (message c.args.self.now)
@@ -254,7 +231,6 @@ returns-in_err-inner-clause-cost c =
 pub returns-in-loop-now-clause-ok : goal.returns-in-loop-now-clause-ok
 returns-in-loop-now-clause-ok c =
     let so_far = c.loop-now.invariant.steps in
-    let less = c.loop-now.invariant.turns.less in
     let grows = c.in_ok-now.ensures.grows in
     let two = subst (λ (o : Option Frame). Turns c.args.self.now.table.now (message c.args.self.now) c.loop-now.rest (at_of c.loop-now.state) (at_of c.read_leaves.new.state) (c.read_leaves.new.state.steps - c.loop-now.state.steps) (left_over o)) c.in-Some.is c.in_ok-now.ensures.ok in
     let held : Turns c.args.self.now.table.now (message c.args.self.now) c.args.frame (at_of c.args.state.now) (at_of c.read_leaves.new.state)
@@ -262,7 +238,6 @@ returns-in-loop-now-clause-ok c =
     (message c.args.self.now) c.args.frame (at_of c.args.state.now) (at_of c.loop-now.state) (c.loop-now.state.steps - c.args.state.now.steps)
     c.loop-now.rest c.loop-now.invariant.turns (at_of c.read_leaves.new.state) _ _ (left_over (Some c.in-Some.now)) (omega (arith, so_far, grows))
     two in
-    let less_now = held.less in
     let rises = c.in_ok-turn.ensures.rises in
     let read : Turns c.args.self.now.table.now (message c.args.self.now) c.args.frame (at_of c.args.state.now) (at_of c.take_member.new.state)
     (c.take_member.new.state.steps - c.args.state.now.steps) c.in_ok-turn.turn = turns_then c.args.self.now.table.now (message c.args.self.now)
@@ -270,7 +245,6 @@ returns-in-loop-now-clause-ok c =
     held (at_of c.take_member.new.state) _ _ c.in_ok-turn.turn (omega (arith, so_far, grows, rises)) c.in_ok-turn.ensures.ok in
     let turn : c.in_ok-turn.turn ≡ record { below = Some c.in-Some-below.below; rest = Some c.in-Some-rest.after } = λ i. record { below = c.in-Some-below.is i; rest = c.in-Some-rest.is i } in
     let both = subst (λ (x : Turn). Turns c.args.self.now.table.now (message c.args.self.now) c.args.frame (at_of c.args.state.now) (at_of c.take_member.new.state) (c.take_member.new.state.steps - c.args.state.now.steps) x) turn read in
-    let less_both = both.less in
     let on = c.in_ok-inner.ensures.grows in
     let three = subst (λ (o : Option Frame). Turns c.args.self.now.table.now (message c.args.self.now) c.in-Some-below.below
     (at_of c.take_member.new.state) (at_of c.read_leaves-in-loop-now.new.state)
@@ -282,7 +256,6 @@ returns-in-loop-now-clause-ok c =
 pub loop-now-preserved-in_default-below : goal.loop-now-preserved-in_default-below
 loop-now-preserved-in_default-below c =
     let so_far = c.loop-now.invariant.steps in
-    let less = c.loop-now.invariant.turns.less in
     let grows = c.in_ok-now.ensures.grows in
     let two = subst (λ (o : Option Frame). Turns c.args.self.now.table.now (message c.args.self.now) c.loop-now.rest (at_of c.loop-now.state) (at_of c.read_leaves.new.state) (c.read_leaves.new.state.steps - c.loop-now.state.steps) (left_over o)) c.in-Some.is c.in_ok-now.ensures.ok in
     let held : Turns c.args.self.now.table.now (message c.args.self.now) c.args.frame (at_of c.args.state.now) (at_of c.read_leaves.new.state)
@@ -290,7 +263,6 @@ loop-now-preserved-in_default-below c =
     (message c.args.self.now) c.args.frame (at_of c.args.state.now) (at_of c.loop-now.state) (c.loop-now.state.steps - c.args.state.now.steps)
     c.loop-now.rest c.loop-now.invariant.turns (at_of c.read_leaves.new.state) _ _ (left_over (Some c.in-Some.now)) (omega (arith, so_far, grows))
     two in
-    let less_now = held.less in
     let rises = c.in_ok-turn.ensures.rises in
     let read : Turns c.args.self.now.table.now (message c.args.self.now) c.args.frame (at_of c.args.state.now) (at_of c.take_member.new.state)
     (c.take_member.new.state.steps - c.args.state.now.steps) c.in_ok-turn.turn = turns_then c.args.self.now.table.now (message c.args.self.now)
@@ -298,13 +270,11 @@ loop-now-preserved-in_default-below c =
     held (at_of c.take_member.new.state) _ _ c.in_ok-turn.turn (omega (arith, so_far, grows, rises)) c.in_ok-turn.ensures.ok in
     let turn : c.in_ok-turn.turn ≡ left_over (Some c.in-Some-rest.after) = λ i. record { below = c.in_default-below.is i; rest = c.in-Some-rest.is i } in
     let alone = subst (λ (x : Turn). Turns c.args.self.now.table.now (message c.args.self.now) c.args.frame (at_of c.args.state.now) (at_of c.take_member.new.state) (c.take_member.new.state.steps - c.args.state.now.steps) x) turn read in
-    let less_alone = alone.less in
     record { holds = c.take_member.ensures.holds; turns = alone; steps = omega (arith, so_far, grows, rises) }
 
 pub loop-now-preserved-then-is_over : goal.loop-now-preserved-then-is_over
 loop-now-preserved-then-is_over c =
     let so_far = c.loop-now.invariant.steps in
-    let less = c.loop-now.invariant.turns.less in
     let grows = c.in_ok-now.ensures.grows in
     let two = subst (λ (o : Option Frame). Turns c.args.self.now.table.now (message c.args.self.now) c.loop-now.rest (at_of c.loop-now.state) (at_of c.read_leaves.new.state) (c.read_leaves.new.state.steps - c.loop-now.state.steps) (left_over o)) c.in-Some.is c.in_ok-now.ensures.ok in
     let held : Turns c.args.self.now.table.now (message c.args.self.now) c.args.frame (at_of c.args.state.now) (at_of c.read_leaves.new.state)
@@ -312,7 +282,6 @@ loop-now-preserved-then-is_over c =
     (message c.args.self.now) c.args.frame (at_of c.args.state.now) (at_of c.loop-now.state) (c.loop-now.state.steps - c.args.state.now.steps)
     c.loop-now.rest c.loop-now.invariant.turns (at_of c.read_leaves.new.state) _ _ (left_over (Some c.in-Some.now)) (omega (arith, so_far, grows))
     two in
-    let less_now = held.less in
     let rises = c.in_ok-turn.ensures.rises in
     let read : Turns c.args.self.now.table.now (message c.args.self.now) c.args.frame (at_of c.args.state.now) (at_of c.take_member.new.state)
     (c.take_member.new.state.steps - c.args.state.now.steps) c.in_ok-turn.turn = turns_then c.args.self.now.table.now (message c.args.self.now)
@@ -320,7 +289,6 @@ loop-now-preserved-then-is_over c =
     held (at_of c.take_member.new.state) _ _ c.in_ok-turn.turn (omega (arith, so_far, grows, rises)) c.in_ok-turn.ensures.ok in
     let turn : c.in_ok-turn.turn ≡ record { below = Some c.in-Some-below.below; rest = Some c.in-Some-rest.after } = λ i. record { below = c.in-Some-below.is i; rest = c.in-Some-rest.is i } in
     let both = subst (λ (x : Turn). Turns c.args.self.now.table.now (message c.args.self.now) c.args.frame (at_of c.args.state.now) (at_of c.take_member.new.state) (c.take_member.new.state.steps - c.args.state.now.steps) x) turn read in
-    let less_both = both.less in
     let over = c.is_over.ensures.0 c.if-is_over.true in
     record {
       holds = c.take_member.ensures.holds;
@@ -333,7 +301,6 @@ loop-now-preserved-then-is_over c =
 pub loop-now-preserved : goal.loop-now-preserved
 loop-now-preserved c =
     let so_far = c.loop-now.invariant.steps in
-    let less = c.loop-now.invariant.turns.less in
     let grows = c.in_ok-now.ensures.grows in
     let two = subst (λ (o : Option Frame). Turns c.args.self.now.table.now (message c.args.self.now) c.loop-now.rest (at_of c.loop-now.state) (at_of c.read_leaves.new.state) (c.read_leaves.new.state.steps - c.loop-now.state.steps) (left_over o)) c.in-Some.is c.in_ok-now.ensures.ok in
     let held : Turns c.args.self.now.table.now (message c.args.self.now) c.args.frame (at_of c.args.state.now) (at_of c.read_leaves.new.state)
@@ -341,7 +308,6 @@ loop-now-preserved c =
     (message c.args.self.now) c.args.frame (at_of c.args.state.now) (at_of c.loop-now.state) (c.loop-now.state.steps - c.args.state.now.steps)
     c.loop-now.rest c.loop-now.invariant.turns (at_of c.read_leaves.new.state) _ _ (left_over (Some c.in-Some.now)) (omega (arith, so_far, grows))
     two in
-    let less_now = held.less in
     let rises = c.in_ok-turn.ensures.rises in
     let read : Turns c.args.self.now.table.now (message c.args.self.now) c.args.frame (at_of c.args.state.now) (at_of c.take_member.new.state)
     (c.take_member.new.state.steps - c.args.state.now.steps) c.in_ok-turn.turn = turns_then c.args.self.now.table.now (message c.args.self.now)
@@ -349,7 +315,6 @@ loop-now-preserved c =
     held (at_of c.take_member.new.state) _ _ c.in_ok-turn.turn (omega (arith, so_far, grows, rises)) c.in_ok-turn.ensures.ok in
     let turn : c.in_ok-turn.turn ≡ record { below = Some c.in-Some-below.below; rest = Some c.in-Some-rest.after } = λ i. record { below = c.in-Some-below.is i; rest = c.in-Some-rest.is i } in
     let both = subst (λ (x : Turn). Turns c.args.self.now.table.now (message c.args.self.now) c.args.frame (at_of c.args.state.now) (at_of c.take_member.new.state) (c.take_member.new.state.steps - c.args.state.now.steps) x) turn read in
-    let less_both = both.less in
     let on = c.in_ok-inner.ensures.grows in
     let three = subst (λ (o : Option Frame). Turns c.args.self.now.table.now (message c.args.self.now) c.in-Some-below.below
     (at_of c.take_member.new.state) (at_of c.read_leaves-in-loop-now.new.state)
@@ -370,7 +335,6 @@ returns-in_err-now-clause-fault_is_true c =
 pub returns-in_err-turn-clause-fault_is_true : goal.returns-in_err-turn-clause-fault_is_true
 returns-in_err-turn-clause-fault_is_true c =
     let so_far = c.loop-now.invariant.steps in
-    let less = c.loop-now.invariant.turns.less in
     let grows = c.in_ok-now.ensures.grows in
     let two = subst (λ (o : Option Frame). Turns c.args.self.now.table.now (message c.args.self.now) c.loop-now.rest (at_of c.loop-now.state) (at_of c.read_leaves.new.state) (c.read_leaves.new.state.steps - c.loop-now.state.steps) (left_over o)) c.in-Some.is c.in_ok-now.ensures.ok in
     let held : Turns c.args.self.now.table.now (message c.args.self.now) c.args.frame (at_of c.args.state.now) (at_of c.read_leaves.new.state)
@@ -378,14 +342,12 @@ returns-in_err-turn-clause-fault_is_true c =
     (message c.args.self.now) c.args.frame (at_of c.args.state.now) (at_of c.loop-now.state) (c.loop-now.state.steps - c.args.state.now.steps)
     c.loop-now.rest c.loop-now.invariant.turns (at_of c.read_leaves.new.state) _ _ (left_over (Some c.in-Some.now)) (omega (arith, so_far, grows))
     two in
-    let less_now = held.less in
     passed_on c.from_residual-in_err-turn.result c.in_err-turn.field-0.0 _ c.from_residual-in_err-turn.ensures.1
     (turns_break c.args.self.now.table.now (message c.args.self.now) c.args.frame (at_of c.args.state.now) (at_of c.read_leaves.new.state) (c.read_leaves.new.state.steps - c.args.state.now.steps) c.in-Some.now held _ c.in_err-turn.ensures.fault_is_true)
 
 pub returns-in_err-inner-clause-fault_is_true : goal.returns-in_err-inner-clause-fault_is_true
 returns-in_err-inner-clause-fault_is_true c =
     let so_far = c.loop-now.invariant.steps in
-    let less = c.loop-now.invariant.turns.less in
     let grows = c.in_ok-now.ensures.grows in
     let two = subst (λ (o : Option Frame). Turns c.args.self.now.table.now (message c.args.self.now) c.loop-now.rest (at_of c.loop-now.state) (at_of c.read_leaves.new.state) (c.read_leaves.new.state.steps - c.loop-now.state.steps) (left_over o)) c.in-Some.is c.in_ok-now.ensures.ok in
     let held : Turns c.args.self.now.table.now (message c.args.self.now) c.args.frame (at_of c.args.state.now) (at_of c.read_leaves.new.state)
@@ -393,7 +355,6 @@ returns-in_err-inner-clause-fault_is_true c =
     (message c.args.self.now) c.args.frame (at_of c.args.state.now) (at_of c.loop-now.state) (c.loop-now.state.steps - c.args.state.now.steps)
     c.loop-now.rest c.loop-now.invariant.turns (at_of c.read_leaves.new.state) _ _ (left_over (Some c.in-Some.now)) (omega (arith, so_far, grows))
     two in
-    let less_now = held.less in
     let rises = c.in_ok-turn.ensures.rises in
     let read : Turns c.args.self.now.table.now (message c.args.self.now) c.args.frame (at_of c.args.state.now) (at_of c.take_member.new.state)
     (c.take_member.new.state.steps - c.args.state.now.steps) c.in_ok-turn.turn = turns_then c.args.self.now.table.now (message c.args.self.now)
@@ -401,14 +362,12 @@ returns-in_err-inner-clause-fault_is_true c =
     held (at_of c.take_member.new.state) _ _ c.in_ok-turn.turn (omega (arith, so_far, grows, rises)) c.in_ok-turn.ensures.ok in
     let turn : c.in_ok-turn.turn ≡ record { below = Some c.in-Some-below.below; rest = Some c.in-Some-rest.after } = λ i. record { below = c.in-Some-below.is i; rest = c.in-Some-rest.is i } in
     let both = subst (λ (x : Turn). Turns c.args.self.now.table.now (message c.args.self.now) c.args.frame (at_of c.args.state.now) (at_of c.take_member.new.state) (c.take_member.new.state.steps - c.args.state.now.steps) x) turn read in
-    let less_both = both.less in
     passed_on c.from_residual-in_err-inner.result c.in_err-inner.field-0.0 _ c.from_residual-in_err-inner.ensures.1
     (below_breaks c.args.self.now.table.now (message c.args.self.now) c.args.frame (at_of c.args.state.now) (at_of c.take_member.new.state) (c.take_member.new.state.steps - c.args.state.now.steps) c.in-Some-below.below c.in-Some-rest.after both _ c.in_err-inner.ensures.fault_is_true)
 
 pub read_leaves-requires-in-loop-now-clause-ready : goal.read_leaves-requires-in-loop-now-clause-ready
 read_leaves-requires-in-loop-now-clause-ready c =
     let so_far = c.loop-now.invariant.steps in
-    let less = c.loop-now.invariant.turns.less in
     let grows = c.in_ok-now.ensures.grows in
     let two = subst (λ (o : Option Frame). Turns c.args.self.now.table.now (message c.args.self.now) c.loop-now.rest (at_of c.loop-now.state) (at_of c.read_leaves.new.state) (c.read_leaves.new.state.steps - c.loop-now.state.steps) (left_over o)) c.in-Some.is c.in_ok-now.ensures.ok in
     let held : Turns c.args.self.now.table.now (message c.args.self.now) c.args.frame (at_of c.args.state.now) (at_of c.read_leaves.new.state)
@@ -416,7 +375,6 @@ read_leaves-requires-in-loop-now-clause-ready c =
     (message c.args.self.now) c.args.frame (at_of c.args.state.now) (at_of c.loop-now.state) (c.loop-now.state.steps - c.args.state.now.steps)
     c.loop-now.rest c.loop-now.invariant.turns (at_of c.read_leaves.new.state) _ _ (left_over (Some c.in-Some.now)) (omega (arith, so_far, grows))
     two in
-    let less_now = held.less in
     let rises = c.in_ok-turn.ensures.rises in
     let read : Turns c.args.self.now.table.now (message c.args.self.now) c.args.frame (at_of c.args.state.now) (at_of c.take_member.new.state)
     (c.take_member.new.state.steps - c.args.state.now.steps) c.in_ok-turn.turn = turns_then c.args.self.now.table.now (message c.args.self.now)
@@ -424,6 +382,5 @@ read_leaves-requires-in-loop-now-clause-ready c =
     held (at_of c.take_member.new.state) _ _ c.in_ok-turn.turn (omega (arith, so_far, grows, rises)) c.in_ok-turn.ensures.ok in
     let turn : c.in_ok-turn.turn ≡ record { below = Some c.in-Some-below.below; rest = Some c.in-Some-rest.after } = λ i. record { below = c.in-Some-below.is i; rest = c.in-Some-rest.is i } in
     let both = subst (λ (x : Turn). Turns c.args.self.now.table.now (message c.args.self.now) c.args.frame (at_of c.args.state.now) (at_of c.take_member.new.state) (c.take_member.new.state.steps - c.args.state.now.steps) x) turn read in
-    let less_both = both.less in
     let p = both.moves c.requires.ready.0 c.requires.ready.1 in
     (p.ahead, p.below_clear)
