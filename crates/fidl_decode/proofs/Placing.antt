@@ -30,7 +30,7 @@ use Rattle.fidl_decode_model.specs.Frontier.{AreFree}
 use Rattle.fidl_decode_model.proofs.Aligned.{even_eights, even_next, even_resolve, no_names}
 use Rattle.fidl_decode_model.proofs.Staying.{stays}
 use Rattle.fidl_decode.proofs.Unlinked.{Agrees, readable}
-use Rattle.fidl_decode.proofs.Covering.{Covers, covers_within, covers_before, Fits, object_stands, envelope_stands, member_fits, first_is}
+use Rattle.fidl_decode_values.proofs.Covering.{Covers, covers_within, covers_before, Fits, object_stands, envelope_stands, member_fits, first_is}
 use Rattle.fidl_decode_model.proofs.Keeping.{Keeps, ends_behind, keeps, keeps_elements, keeps_fields, keeps_member, keeps_envelopes}
 
 module _ (ds : Declarations) (laid : IsLaidOut ds) (m : Message) (l : Linked) where

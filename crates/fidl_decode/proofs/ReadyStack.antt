@@ -8,7 +8,7 @@ use Rattle.fidl_decode_model.specs.State.{Message, Position}
 use Rattle.fidl_decode_model.specs.Frontier.{IsAhead, IsClear, ClearIf, AreApart, ApartIf, IsIn, InIf, Moves}
 use Rattle.fidl_decode_model.specs.Machine.{Turns}
 use Rattle.fidl_decode_model.proofs.Moving.{clear_still}
-use Rattle.fidl_decode.specs.Ready.{IsApart, AreClear, StackReady}
+use Rattle.fidl_decode_values.specs.Ready.{IsApart, AreClear, StackReady}
 
 -- ---- frames at the stack's end
 

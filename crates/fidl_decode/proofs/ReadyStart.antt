@@ -10,7 +10,7 @@ use Rattle.fidl_decode_model.specs.State.{Message, Position}
 use Rattle.fidl_decode_model.specs.Frontier.{AreFree}
 use Rattle.fidl_decode_model.proofs.Aligned.{even_eights, even_next, no_names}
 use Rattle.fidl_decode_model.proofs.Visiting.{size_is}
-use Rattle.fidl_decode.specs.Ready.{ValueReady}
+use Rattle.fidl_decode_values.specs.Ready.{ValueReady}
 
 pub start_ready : (t : List ℕ) → IsFine t → (m : Message) (e : ℕ) → e < (header_of t).entries → (s : Position) → s.next ≡ next_multiple_of (entry_at t e).size 8 → s.next ≤ length m.bytes → AreFree s 0 (length m.bytes) → ValueReady t m s e 0
 start_ready t fine m e lt s whole within free =

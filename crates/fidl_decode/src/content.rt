@@ -1,6 +1,6 @@
 //! The content of envelopes, and the members that are left of any frame.
-ghost use Rattle.std.specs.Prelude.{◌≡◌, ◌+◌, ◌-◌, ◌^◌, ◌<◌, ◌≤◌, OnOk, IfOk, IfErr, IfNone};
-ghost use Rattle.std.specs.Prelude.{Some, None};
+ghost use Rattle.std.specs.Prelude.{◌≡◌, ◌+◌, ◌-◌, ◌^◌, ◌<◌, ◌≤◌, OnOk, IfOk, IfErr, IfNone, Some};
+ghost use Rattle.std.specs.Prelude.{None};
 ghost use Rattle.fidl_table_format.specs.Kind.{kind_of};
 ghost use Rattle.fidl_table_format.specs.Section.{entry_at};
 ghost use Rattle.fidl_decode_model.specs.Invariants.{IsFlat};
@@ -8,15 +8,14 @@ ghost use Rattle.fidl_decode_model.specs.declared.frame.Remaining.TheVariants as
 ghost use Rattle.fidl_decode_model.specs.Steps.{Spends};
 ghost use Rattle.fidl_decode_model.specs.Machine.{StateFine, FrameFine, Turns, BreaksFrame};
 ghost use Rattle.fidl_decode_model.specs.Machine.{turn_work, at_of};
-ghost use Rattle.fidl_decode.specs.Reading.{came, message, Holds};
-ghost use Rattle.fidl_decode.specs.Ready.{CanReadFrame};
+ghost use Rattle.fidl_decode.specs.Reading.{table, came, message, Holds, CanReadFrame};
 
-use crate::decoder::Decoder;
+use crate::frames::Frames;
 use fidl_decode_model::DecodeFault;
 use fidl_decode_model::frame::{Frame, Remaining, State, Turn, Until};
 use fidl_table_format::EntryKind;
 
-impl<'t, 'm, 's> Decoder<'t, 'm, 's> {
+impl<'t, 'm, 's> Frames<'t, 'm, 's> {
     /// Reads the value of an envelope's content, or its end, which has to be where the envelope
     /// counts up to.
     #[inline(always)]
@@ -30,24 +29,24 @@ impl<'t, 'm, 's> Decoder<'t, 'm, 's> {
         state: &mut State<'_, '_>,
     ) -> Result<Turn, DecodeFault>
         requires left { frame.left ≡ left.Content entry size count until }
-        requires frame { FrameFine self.now.table.now (came self.now) frame }
+        requires frame { FrameFine (table self.now) (came self.now) frame }
         requires holds { Holds self.now state.old }
         requires state { StateFine (message self.now) (at_of state.old) }
         requires ready { CanReadFrame self.now state.old frame }
         requires steps { state.old.steps < 2 ^ 40 }
         ensures holds { Holds self.now state.new }
-        ensures ok { IfOk result (λ turn. Turns self.now.table.now (message self.now) frame
+        ensures ok { IfOk result (λ turn. Turns (table self.now) (message self.now) frame
             (at_of state.old) (at_of state.new) (state.new.steps - state.old.steps) turn) }
         ensures spends { Spends state.old.steps state.new.steps 1 (turn_work (came self.now)
             state.old.next frame) }
-        ensures fault_is_true { IfErr result (BreaksFrame self.now.table.now (message self.now)
+        ensures fault_is_true { IfErr result (BreaksFrame (table self.now) (message self.now)
             frame (at_of state.old)) }
     {
         let at = frame.base as usize + frame.done as usize;
         if count == 0 {
             let stop = frame.base as usize + frame.size as usize;
             state.steps += (stop - at) as u64 + 1;
-            self.zeros_at(at, stop, state)?;
+            self.decoder.zeros_at(at, stop, state)?;
             if state.next != until.next as usize || state.handle != until.handle as usize {
                 return Err(DecodeFault::WrongCounts {
                     at: until.envelope as usize,
@@ -59,7 +58,9 @@ impl<'t, 'm, 's> Decoder<'t, 'm, 's> {
             });
         }
         state.steps += 1;
-        let below = self.visit(entry, at, frame.depth, frame.in_envelope, state)?;
+        let below = self
+            .decoder
+            .visit(entry, at, frame.depth, frame.in_envelope, state)?;
         let left = Remaining::Content {
             entry,
             size: size as u32,
@@ -93,23 +94,24 @@ impl<'t, 'm, 's> Decoder<'t, 'm, 's> {
         until: Until,
         state: &mut State<'_, '_>,
     ) -> Result<(), DecodeFault>
-        requires frame { FrameFine self.now.table.now (came self.now) frame }
+        requires frame { FrameFine (table self.now) (came self.now) frame }
         requires left { frame.left ≡ left.Content entry size 1 until }
-        requires kind { kind_of (entry_at self.now.table.now entry).kind ≡ Some kind }
-        requires flat { IsFlat self.now.table.now (entry_at self.now.table.now entry) kind }
+        requires kind { kind_of (entry_at (table self.now) entry).kind ≡ Some kind }
+        requires flat { IsFlat (table self.now) (entry_at (table self.now) entry) kind }
         requires holds { Holds self.now state.old }
         requires state { StateFine (message self.now) (at_of state.old) }
         requires ready { CanReadFrame self.now state.old frame }
-        requires budget { state.old.steps + turn_work (came self.now) state.old.next frame < 2 ^ 40 }
+        requires budget { state.old.steps + turn_work (came self.now) state.old.next frame < 2 ^ 40
+            }
         ensures holds { Holds self.now state.new }
         ensures ok { OnOk result
-            (Turns self.now.table.now (message self.now) frame
+            (Turns (table self.now) (message self.now) frame
             (at_of state.old) (at_of state.new) (state.new.steps - state.old.steps)
             (record { below = None; rest = None })) }
         ensures rises { OnOk result (state.old.steps < state.new.steps) }
         ensures cost { state.new.steps ≤ state.old.steps + turn_work (came self.now) state.old.next
             frame }
-        ensures fault_is_true { IfErr result (BreaksFrame self.now.table.now (message self.now)
+        ensures fault_is_true { IfErr result (BreaksFrame (table self.now) (message self.now)
             frame (at_of state.old)) }
     {
         let at = frame.base as usize + frame.done as usize;
@@ -119,7 +121,7 @@ impl<'t, 'm, 's> Decoder<'t, 'm, 's> {
         let over = frame.base as usize + done;
         let stop = frame.base as usize + frame.size as usize;
         state.steps += (stop - over) as u64 + 1;
-        self.zeros_at(over, stop, state)?;
+        self.decoder.zeros_at(over, stop, state)?;
         if state.next != until.next as usize || state.handle != until.handle as usize {
             return Err(DecodeFault::WrongCounts {
                 at: until.envelope as usize,
@@ -140,32 +142,33 @@ impl<'t, 'm, 's> Decoder<'t, 'm, 's> {
         until: Until,
         state: &mut State<'_, '_>,
     ) -> Result<Option<Frame>, DecodeFault>
-        requires frame { FrameFine self.now.table.now (came self.now) frame }
+        requires frame { FrameFine (table self.now) (came self.now) frame }
         requires left { frame.left ≡ left.Content entry size count until }
         requires holds { Holds self.now state.old }
         requires state { StateFine (message self.now) (at_of state.old) }
         requires ready { CanReadFrame self.now state.old frame }
-        requires budget { state.old.steps + turn_work (came self.now) state.old.next frame < 2 ^ 40 }
+        requires budget { state.old.steps + turn_work (came self.now) state.old.next frame < 2 ^ 40
+            }
         ensures holds { Holds self.now state.new }
         ensures ok { IfOk result
-            (λ rest. Turns self.now.table.now (message self.now)
+            (λ rest. Turns (table self.now) (message self.now)
             frame (at_of state.old) (at_of state.new) (state.new.steps - state.old.steps)
             (record { below = None; rest = rest })) }
         ensures grows { OnOk result (state.old.steps ≤ state.new.steps) }
         ensures ended { IfOk result (λ rest. IfNone rest (state.old.steps < state.new.steps)) }
         ensures cost { state.new.steps ≤ state.old.steps + turn_work (came self.now) state.old.next
             frame }
-        ensures fault_is_true { IfErr result (BreaksFrame self.now.table.now (message self.now)
+        ensures fault_is_true { IfErr result (BreaksFrame (table self.now) (message self.now)
             frame (at_of state.old)) }
     {
         if count != 1 {
             return Ok(Some(frame));
         }
-        let e = self.entry(entry);
+        let e = self.decoder.entry(entry);
         let Some(kind) = EntryKind::from_number(e.kind) else {
             unreachable!()
         };
-        if !self.is_flat(entry, kind) {
+        if !self.decoder.is_flat(entry, kind) {
             return Ok(Some(frame));
         }
         self.read_whole(frame, entry, kind, size, until, state)?;
@@ -179,18 +182,19 @@ impl<'t, 'm, 's> Decoder<'t, 'm, 's> {
         frame: Frame,
         state: &mut State<'_, '_>,
     ) -> Result<Turn, DecodeFault>
-        requires frame { FrameFine self.now.table.now (came self.now) frame }
+        requires frame { FrameFine (table self.now) (came self.now) frame }
         requires holds { Holds self.now state.old }
         requires state { StateFine (message self.now) (at_of state.old) }
         requires ready { CanReadFrame self.now state.old frame }
-        requires budget { state.old.steps + turn_work (came self.now) state.old.next frame < 2 ^ 40 }
+        requires budget { state.old.steps + turn_work (came self.now) state.old.next frame < 2 ^ 40
+            }
         ensures holds { Holds self.now state.new }
-        ensures ok { IfOk result (λ turn. Turns self.now.table.now (message self.now) frame
+        ensures ok { IfOk result (λ turn. Turns (table self.now) (message self.now) frame
             (at_of state.old) (at_of state.new) (state.new.steps - state.old.steps) turn) }
         ensures rises { OnOk result (state.old.steps < state.new.steps) }
         ensures cost { state.new.steps ≤ state.old.steps + turn_work (came self.now) state.old.next
             frame }
-        ensures fault_is_true { IfErr result (BreaksFrame self.now.table.now (message self.now)
+        ensures fault_is_true { IfErr result (BreaksFrame (table self.now) (message self.now)
             frame (at_of state.old)) }
     {
         match frame.left {

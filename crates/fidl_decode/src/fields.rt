@@ -1,25 +1,23 @@
 //! The fields of a frame, read in place: the rows of a struct, and the elements of an array or
 //! vector.
-ghost use Rattle.std.specs.Prelude.{◌≡◌, ◌+◌, ◌-◌, ◌*◌, ◌^◌, ◌<◌, ◌≤◌, OnOk, IfOk, IfErr};
-ghost use Rattle.std.specs.Prelude.{IfNone, true, Some, None};
+ghost use Rattle.std.specs.Prelude.{◌≡◌, ◌+◌, ◌-◌, ◌^◌, ◌<◌, ◌≤◌, OnOk, IfOk, IfErr, IfNone, true};
+ghost use Rattle.std.specs.Prelude.{Some, None};
 ghost use Rattle.fidl_table_format.specs.Kind.{kind_of};
 ghost use Rattle.fidl_table_format.specs.Section.{header_of, entry_at};
-ghost use Rattle.fidl_decode_model.specs.Invariants.{is_leaf, is_free_at};
+ghost use Rattle.fidl_decode_model.specs.Invariants.{is_leaf};
 ghost use Rattle.fidl_decode_model.specs.declared.frame.Remaining.TheVariants as left;
-ghost use Rattle.fidl_decode_model.specs.Steps.{Spends};
 ghost use Rattle.fidl_decode_model.specs.Machine.{StateFine, FrameFine, BreaksFrame, Turns};
 ghost use Rattle.fidl_decode_model.specs.Machine.{IsKnown, turn_work, at_of};
-ghost use Rattle.fidl_decode.specs.Reading.{came, message, Holds};
-ghost use Rattle.fidl_decode.specs.Ready.{CanReadFrame};
+ghost use Rattle.fidl_decode.specs.Reading.{table, came, message, Holds, CanReadFrame};
 
-use crate::decoder::Decoder;
-use crate::plain::Plain;
+use crate::frames::Frames;
 use fidl_decode_columns::is_free;
 use fidl_decode_model::DecodeFault;
 use fidl_decode_model::frame::{Frame, Remaining, State};
+use fidl_decode_values::Plain;
 use fidl_table_format::EntryKind;
 
-impl<'t, 'm, 's> Decoder<'t, 'm, 's> {
+impl<'t, 'm, 's> Frames<'t, 'm, 's> {
     /// Reads the last member of a struct, where nothing is left behind it: what it leads to takes
     /// the struct's place. Else the frame is left as it is.
     #[inline(never)]
@@ -30,29 +28,30 @@ impl<'t, 'm, 's> Decoder<'t, 'm, 's> {
         count: u32,
         state: &mut State<'_, '_>,
     ) -> Result<Option<Frame>, DecodeFault>
-        requires frame { FrameFine self.now.table.now (came self.now) frame }
+        requires frame { FrameFine (table self.now) (came self.now) frame }
         requires left { frame.left ≡ left.Rows first count }
         requires holds { Holds self.now state.old }
         requires state { StateFine (message self.now) (at_of state.old) }
         requires ready { CanReadFrame self.now state.old frame }
-        requires budget { state.old.steps + turn_work (came self.now) state.old.next frame < 2 ^ 40 }
+        requires budget { state.old.steps + turn_work (came self.now) state.old.next frame < 2 ^ 40
+            }
         ensures holds { Holds self.now state.new }
         ensures ok { IfOk result
-            (λ rest. Turns self.now.table.now (message self.now)
+            (λ rest. Turns (table self.now) (message self.now)
             frame (at_of state.old) (at_of state.new) (state.new.steps - state.old.steps)
             (record { below = None; rest = rest })) }
         ensures grows { OnOk result (state.old.steps ≤ state.new.steps) }
         ensures ended { IfOk result (λ rest. IfNone rest (state.old.steps < state.new.steps)) }
         ensures cost { state.new.steps ≤ state.old.steps + turn_work (came self.now) state.old.next
             frame }
-        ensures fault_is_true { IfErr result (BreaksFrame self.now.table.now (message self.now)
+        ensures fault_is_true { IfErr result (BreaksFrame (table self.now) (message self.now)
             frame (at_of state.old)) }
     {
         if count != 1 {
             return Ok(Some(frame));
         }
-        let row = self.row(first);
-        let e = self.entry(row.entry);
+        let row = self.decoder.row(first);
+        let e = self.decoder.entry(row.entry);
         let done = row.key as usize + e.size as usize;
         if done != frame.size as usize {
             return Ok(Some(frame));
@@ -60,12 +59,15 @@ impl<'t, 'm, 's> Decoder<'t, 'm, 's> {
         let read = frame.base as usize + frame.done as usize;
         let place = frame.base as usize + row.key as usize;
         state.steps += (place - read) as u64 + 1;
-        self.zeros_at(read, place, state)?;
-        let below = self.visit(row.entry, place, frame.depth, frame.in_envelope, state)?;
+        self.decoder.zeros_at(read, place, state)?;
+        let below = self
+            .decoder
+            .visit(row.entry, place, frame.depth, frame.in_envelope, state)?;
         Ok(below)
     }
 
-    /// Reads a struct in place, and what its last member leads to, up to the first member that is no
+    /// Reads a struct in place, and what its last member leads to, up to the first member that is
+    /// no
     /// leaf. Nothing is left at the end.
     pub(crate) fn read_struct(
         &self,
@@ -73,23 +75,24 @@ impl<'t, 'm, 's> Decoder<'t, 'm, 's> {
         known: &Plain,
         state: &mut State<'_, '_>,
     ) -> Result<Option<Frame>, DecodeFault>
-        requires frame { FrameFine self.now.table.now (came self.now) frame }
-        requires known { IsKnown self.now.table.now (message self.now) known.now.rows
+        requires frame { FrameFine (table self.now) (came self.now) frame }
+        requires known { IsKnown (table self.now) (message self.now) known.now.rows
             known.now.first known.now.count known.now.done known.now.flag }
         requires holds { Holds self.now state.old }
         requires state { StateFine (message self.now) (at_of state.old) }
         requires ready { CanReadFrame self.now state.old frame }
-        requires budget { state.old.steps + turn_work (came self.now) state.old.next frame < 2 ^ 40 }
+        requires budget { state.old.steps + turn_work (came self.now) state.old.next frame < 2 ^ 40
+            }
         ensures holds { Holds self.now state.new }
         ensures ok { IfOk result
-            (λ rest. Turns self.now.table.now (message self.now)
+            (λ rest. Turns (table self.now) (message self.now)
             frame (at_of state.old) (at_of state.new) (state.new.steps - state.old.steps)
             (record { below = None; rest = rest })) }
         ensures grows { OnOk result (state.old.steps ≤ state.new.steps) }
         ensures ended { IfOk result (λ rest. IfNone rest (state.old.steps < state.new.steps)) }
         ensures cost { state.new.steps ≤ state.old.steps + turn_work (came self.now) state.old.next
             frame }
-        ensures fault_is_true { IfErr result (BreaksFrame self.now.table.now (message self.now)
+        ensures fault_is_true { IfErr result (BreaksFrame (table self.now) (message self.now)
             frame (at_of state.old)) }
     {
         let Some(now) = self.read_nested(frame, known, state)? else {
@@ -122,69 +125,39 @@ impl<'t, 'm, 's> Decoder<'t, 'm, 's> {
         count: u32,
         state: &mut State<'_, '_>,
     ) -> Result<(), DecodeFault>
-        requires frame { FrameFine self.now.table.now (came self.now) frame }
+        requires frame { FrameFine (table self.now) (came self.now) frame }
         requires left { frame.left ≡ left.Elements entry size count }
-        requires entry { entry < (header_of self.now.table.now).entries }
-        requires kind { kind_of (entry_at self.now.table.now entry).kind ≡ Some kind }
-        requires leaf { is_leaf self.now.table.now (entry_at self.now.table.now entry) kind ≡ true }
+        requires entry { entry < (header_of (table self.now)).entries }
+        requires kind { kind_of (entry_at (table self.now) entry).kind ≡ Some kind }
+        requires leaf { is_leaf (table self.now) (entry_at (table self.now) entry) kind ≡ true }
         requires holds { Holds self.now state.old }
         requires state { StateFine (message self.now) (at_of state.old) }
         requires ready { CanReadFrame self.now state.old frame }
-        requires budget { state.old.steps + turn_work (came self.now) state.old.next frame < 2 ^ 40 }
+        requires budget { state.old.steps + turn_work (came self.now) state.old.next frame < 2 ^ 40
+            }
         ensures holds { Holds self.now state.new }
         ensures ok { OnOk result
-            (Turns self.now.table.now (message self.now) frame
+            (Turns (table self.now) (message self.now) frame
             (at_of state.old) (at_of state.new) (state.new.steps - state.old.steps)
             (record { below = None; rest = None })) }
         ensures ended { OnOk result (state.old.steps < state.new.steps) }
         ensures cost { state.new.steps ≤ state.old.steps + turn_work (came self.now) state.old.next
             frame }
-        ensures fault_is_true { IfErr result (BreaksFrame self.now.table.now (message self.now)
+        ensures fault_is_true { IfErr result (BreaksFrame (table self.now) (message self.now)
             frame (at_of state.old)) }
     {
         let mut done = frame.done as usize;
         for i in 0..count {
             let place = frame.base as usize + done;
             state.steps += 1;
-            self.read_leaf(entry, kind, place, frame.depth, state)?;
+            self.decoder
+                .read_leaf(entry, kind, place, frame.depth, state)?;
             done += size;
         }
         let at = frame.base as usize + done;
         let stop = frame.base as usize + frame.size as usize;
         state.steps += (stop - at) as u64 + 1;
-        self.zeros_at(at, stop, state)
-    }
-
-    /// Passes over elements that any bytes are values of, and reads the zeros behind them.
-    #[inline(always)]
-    pub(crate) fn pass_elements(
-        &self,
-        frame: Frame,
-        entry: u32,
-        size: usize,
-        count: u32,
-        state: &mut State<'_, '_>,
-    ) -> Result<(), DecodeFault>
-        requires frame { FrameFine self.now.table.now (came self.now) frame }
-        requires left { frame.left ≡ left.Elements entry size count }
-        requires free { is_free_at self.now.table.now entry ≡ true }
-        requires holds { Holds self.now state.old }
-        requires state { StateFine (message self.now) (at_of state.old) }
-        requires ready { CanReadFrame self.now state.old frame }
-        requires budget { state.old.steps < 2 ^ 42 }
-        ensures holds { Holds self.now state.new }
-        ensures ok { OnOk result
-            (Turns self.now.table.now (message self.now) frame
-            (at_of state.old) (at_of state.new) (state.new.steps - state.old.steps)
-            (record { below = None; rest = None })) }
-        ensures spends { Spends state.old.steps state.new.steps 1 (1 + (frame.size - frame.done)) }
-        ensures fault_is_true { IfErr result (BreaksFrame self.now.table.now (message self.now)
-            frame (at_of state.old)) }
-    {
-        let from = frame.base as usize + frame.done as usize + size * count as usize;
-        let stop = frame.base as usize + frame.size as usize;
-        state.steps += (stop - from) as u64 + 1;
-        self.zeros_at(from, stop, state)
+        self.decoder.zeros_at(at, stop, state)
     }
 
     /// Reads the elements of an array or vector in place, where they are leaves. Nothing is left at
@@ -197,36 +170,38 @@ impl<'t, 'm, 's> Decoder<'t, 'm, 's> {
         count: u32,
         state: &mut State<'_, '_>,
     ) -> Result<Option<Frame>, DecodeFault>
-        requires frame { FrameFine self.now.table.now (came self.now) frame }
+        requires frame { FrameFine (table self.now) (came self.now) frame }
         requires left { frame.left ≡ left.Elements entry size count }
         requires holds { Holds self.now state.old }
         requires state { StateFine (message self.now) (at_of state.old) }
         requires ready { CanReadFrame self.now state.old frame }
-        requires budget { state.old.steps + turn_work (came self.now) state.old.next frame < 2 ^ 40 }
+        requires budget { state.old.steps + turn_work (came self.now) state.old.next frame < 2 ^ 40
+            }
         ensures holds { Holds self.now state.new }
         ensures ok { IfOk result
-            (λ rest. Turns self.now.table.now (message self.now)
+            (λ rest. Turns (table self.now) (message self.now)
             frame (at_of state.old) (at_of state.new) (state.new.steps - state.old.steps)
             (record { below = None; rest = rest })) }
         ensures grows { OnOk result (state.old.steps ≤ state.new.steps) }
         ensures ended { IfOk result (λ rest. IfNone rest (state.old.steps < state.new.steps)) }
         ensures cost { state.new.steps ≤ state.old.steps + turn_work (came self.now) state.old.next
             frame }
-        ensures fault_is_true { IfErr result (BreaksFrame self.now.table.now (message self.now)
+        ensures fault_is_true { IfErr result (BreaksFrame (table self.now) (message self.now)
             frame (at_of state.old)) }
     {
         if count == 0 {
             return Ok(Some(frame));
         }
-        let e = self.entry(entry);
+        let e = self.decoder.entry(entry);
         let Some(kind) = EntryKind::from_number(e.kind) else {
             unreachable!()
         };
-        if !self.is_leaf(entry, kind) {
+        if !self.decoder.is_leaf(entry, kind) {
             return Ok(Some(frame));
         }
         if is_free(&e, kind) {
-            self.pass_elements(frame, entry, size, count, state)?;
+            self.decoder
+                .pass_elements(frame, entry, size, count, state)?;
             return Ok(None);
         }
         self.read_each(frame, entry, kind, size, count, state)?;
@@ -241,21 +216,22 @@ impl<'t, 'm, 's> Decoder<'t, 'm, 's> {
         frame: Frame,
         state: &mut State<'_, '_>,
     ) -> Result<Option<Frame>, DecodeFault>
-        requires frame { FrameFine self.now.table.now (came self.now) frame }
+        requires frame { FrameFine (table self.now) (came self.now) frame }
         requires holds { Holds self.now state.old }
         requires state { StateFine (message self.now) (at_of state.old) }
         requires ready { CanReadFrame self.now state.old frame }
-        requires budget { state.old.steps + turn_work (came self.now) state.old.next frame < 2 ^ 40 }
+        requires budget { state.old.steps + turn_work (came self.now) state.old.next frame < 2 ^ 40
+            }
         ensures holds { Holds self.now state.new }
         ensures ok { IfOk result
-            (λ rest. Turns self.now.table.now (message self.now)
+            (λ rest. Turns (table self.now) (message self.now)
             frame (at_of state.old) (at_of state.new) (state.new.steps - state.old.steps)
             (record { below = None; rest = rest })) }
         ensures grows { OnOk result (state.old.steps ≤ state.new.steps) }
         ensures ended { IfOk result (λ rest. IfNone rest (state.old.steps < state.new.steps)) }
         ensures cost { state.new.steps ≤ state.old.steps + turn_work (came self.now) state.old.next
             frame }
-        ensures fault_is_true { IfErr result (BreaksFrame self.now.table.now (message self.now)
+        ensures fault_is_true { IfErr result (BreaksFrame (table self.now) (message self.now)
             frame (at_of state.old)) }
     {
         match frame.left {

@@ -1,6 +1,5 @@
 //! Values that are read whole where they stand: leaves, and structs whose members are leaves.
-ghost use Rattle.std.specs.Prelude.{◌≡◌, ◌+◌, ◌-◌, ◌^◌, ◌<◌, ◌≤◌, OnOk, IfErr, IsTrue};
-ghost use Rattle.std.specs.Prelude.{Some, None, length};
+ghost use Rattle.std.specs.Prelude.{◌≡◌, ◌+◌, ◌-◌, ◌^◌, ◌<◌, ◌≤◌, OnOk, IfErr, Some, None, length};
 ghost use Rattle.fidl_limits.specs.declared.limits.TheConstants.{MAX_DEPTH};
 ghost use Rattle.fidl_wire.specs.Term as ty;
 ghost use Rattle.fidl_wire.specs.Term.{resolve};
@@ -11,61 +10,18 @@ ghost use Rattle.fidl_decode_model.specs.Invariants.{AreLeaves, IsFlat};
 ghost use Rattle.fidl_decode_model.specs.Breaks.{Breaks};
 ghost use Rattle.fidl_decode_model.specs.declared.frame.Remaining.TheVariants as left;
 ghost use Rattle.fidl_decode_model.specs.Steps.{Spends};
-ghost use Rattle.fidl_decode_model.specs.Machine.{StateFine, FrameFine, BreaksFrame, Visits};
-ghost use Rattle.fidl_decode_model.specs.Machine.{Turns, turn_work, value_work, at_of};
-ghost use Rattle.fidl_decode.specs.Reading.{came, message, Holds};
-ghost use Rattle.fidl_decode.specs.Ready.{CanReadFrame, CanReadValue};
+ghost use Rattle.fidl_decode_model.specs.Machine.{StateFine, FrameFine, BreaksFrame, Visits, Turns};
+ghost use Rattle.fidl_decode_model.specs.Machine.{turn_work, value_work, at_of};
+ghost use Rattle.fidl_decode.specs.Reading.{table, came, message, Holds, CanReadFrame};
+ghost use Rattle.fidl_decode.specs.Reading.{CanReadValue};
 
-use crate::decoder::Decoder;
-use crate::plain::rows_from;
-use fidl_decode_columns::MOST_ROWS;
+use crate::frames::Frames;
 use fidl_decode_model::DecodeFault;
 use fidl_decode_model::frame::{Frame, Remaining, State};
+use fidl_decode_values::rows_from;
 use fidl_table_format::EntryKind;
 
-impl<'t, 'm, 's> Decoder<'t, 'm, 's> {
-    /// Whether so many rows, from the first on, are no more than are looked at, and their members are
-    /// leaves.
-    #[inline(never)]
-    pub(crate) fn are_leaves(&self, first: u32, count: u32) -> bool
-        requires within { first + count ≤ (header_of self.now.table.now).rows }
-        ensures { IsTrue result → AreLeaves self.now.table.now first count }
-    {
-        if count > MOST_ROWS {
-            return false;
-        }
-        // Read, so that the number of rows, and with it each row's, is known to have 32 bits.
-        let _rows = self.table.rows();
-        for i in 0..count {
-            let entry = self.row(first + i).entry;
-            let e = self.entry(entry);
-            let Some(kind) = EntryKind::from_number(e.kind) else {
-                return false;
-            };
-            if !self.is_leaf(entry, kind) {
-                return false;
-            }
-        }
-        true
-    }
-
-    /// Whether a value of the entry, which is of this kind, is a leaf, or a struct of leaves.
-    #[inline(always)]
-    pub(crate) fn is_flat(&self, entry: u32, kind: EntryKind) -> bool
-        requires entry { entry < (header_of self.now.table.now).entries }
-        requires kind { kind_of (entry_at self.now.table.now entry).kind ≡ Some kind }
-        ensures { IsTrue result
-            → IsFlat self.now.table.now (entry_at self.now.table.now entry) kind }
-    {
-        match kind {
-            EntryKind::Struct => {
-                let e = self.entry(entry);
-                self.are_leaves(e.first, e.count)
-            }
-            _ => self.is_leaf(entry, kind),
-        }
-    }
-
+impl<'t, 'm, 's> Frames<'t, 'm, 's> {
     /// Reads the rows of a struct in place, which are leaves, and the zeros before and behind them.
     #[inline(always)]
     pub(crate) fn read_fields(
@@ -75,32 +31,33 @@ impl<'t, 'm, 's> Decoder<'t, 'm, 's> {
         count: u32,
         state: &mut State<'_, '_>,
     ) -> Result<(), DecodeFault>
-        requires frame { FrameFine self.now.table.now (came self.now) frame }
+        requires frame { FrameFine (table self.now) (came self.now) frame }
         requires left { frame.left ≡ left.Rows first count }
-        requires leaves { AreLeaves self.now.table.now first count }
+        requires leaves { AreLeaves (table self.now) first count }
         requires holds { Holds self.now state.old }
         requires state { StateFine (message self.now) (at_of state.old) }
         requires ready { CanReadFrame self.now state.old frame }
-        requires budget { state.old.steps + turn_work (came self.now) state.old.next frame < 2 ^ 40 }
+        requires budget { state.old.steps + turn_work (came self.now) state.old.next frame < 2 ^ 40
+            }
         ensures holds { Holds self.now state.new }
         ensures ok { OnOk result
-            (Turns self.now.table.now (message self.now) frame
+            (Turns (table self.now) (message self.now) frame
             (at_of state.old) (at_of state.new) (state.new.steps - state.old.steps)
             (record { below = None; rest = None })) }
         ensures spends { Spends state.old.steps state.new.steps 1 (turn_work (came self.now)
             state.old.next frame) }
-        ensures fault_is_true { IfErr result (BreaksFrame self.now.table.now (message self.now)
+        ensures fault_is_true { IfErr result (BreaksFrame (table self.now) (message self.now)
             frame (at_of state.old)) }
     {
         // Read, so that the number of rows, and with it each row's, is known to have 32 bits.
-        let _rows = self.table.rows();
+        let _rows = self.decoder.table.rows();
         let mut next = first;
         let mut many = count;
         let mut done = frame.done as usize;
         while many != 0 {
             let rest = rows_from(frame, next, many, done);
-            let row = self.row(next);
-            let e = self.entry(row.entry);
+            let row = self.decoder.row(next);
+            let e = self.decoder.entry(row.entry);
             let Some(kind) = EntryKind::from_number(e.kind) else {
                 unreachable!()
             };
@@ -121,21 +78,22 @@ impl<'t, 'm, 's> Decoder<'t, 'm, 's> {
         count: u32,
         state: &mut State<'_, '_>,
     ) -> Result<(), DecodeFault>
-        requires frame { FrameFine self.now.table.now (came self.now) frame }
+        requires frame { FrameFine (table self.now) (came self.now) frame }
         requires left { frame.left ≡ left.Rows first count }
-        requires leaves { AreLeaves self.now.table.now first count }
+        requires leaves { AreLeaves (table self.now) first count }
         requires holds { Holds self.now state.old }
         requires state { StateFine (message self.now) (at_of state.old) }
         requires ready { CanReadFrame self.now state.old frame }
-        requires budget { state.old.steps + turn_work (came self.now) state.old.next frame < 2 ^ 40 }
+        requires budget { state.old.steps + turn_work (came self.now) state.old.next frame < 2 ^ 40
+            }
         ensures holds { Holds self.now state.new }
         ensures ok { OnOk result
-            (Turns self.now.table.now (message self.now) frame
+            (Turns (table self.now) (message self.now) frame
             (at_of state.old) (at_of state.new) (state.new.steps - state.old.steps)
             (record { below = None; rest = None })) }
         ensures spends { Spends state.old.steps state.new.steps 1 (turn_work (came self.now)
             state.old.next frame) }
-        ensures fault_is_true { IfErr result (BreaksFrame self.now.table.now (message self.now)
+        ensures fault_is_true { IfErr result (BreaksFrame (table self.now) (message self.now)
             frame (at_of state.old)) }
     {
         self.read_fields(frame, first, count, state)
@@ -151,29 +109,29 @@ impl<'t, 'm, 's> Decoder<'t, 'm, 's> {
         depth: u8,
         state: &mut State<'_, '_>,
     ) -> Result<(), DecodeFault>
-        requires entry { entry < (header_of self.now.table.now).entries }
-        requires kind { kind_of (entry_at self.now.table.now entry).kind ≡ Some kind }
-        requires flat { IsFlat self.now.table.now (entry_at self.now.table.now entry) kind }
-        requires room { place + (entry_at self.now.table.now entry).size ≤ length (came self.now) }
+        requires entry { entry < (header_of (table self.now)).entries }
+        requires kind { kind_of (entry_at (table self.now) entry).kind ≡ Some kind }
+        requires flat { IsFlat (table self.now) (entry_at (table self.now) entry) kind }
+        requires room { place + (entry_at (table self.now) entry).size ≤ length (came self.now) }
         requires holds { Holds self.now state.old }
         requires state { StateFine (message self.now) (at_of state.old) }
         requires ready { CanReadValue self.now state.old entry place }
         requires depth { depth ≤ MAX_DEPTH }
         requires budget { state.old.steps + value_work (came self.now) state.old.next
-            (entry_at self.now.table.now entry) < 2 ^ 40 }
+            (entry_at (table self.now) entry) < 2 ^ 40 }
         ensures holds { Holds self.now state.new }
-        ensures ok { OnOk result (Visits self.now.table.now (message self.now) depth entry place
+        ensures ok { OnOk result (Visits (table self.now) (message self.now) depth entry place
             (at_of state.old) (at_of state.new) (state.new.steps - state.old.steps) None) }
-        ensures fault_is_true { IfErr result (Breaks (declarations_of self.now.table.now)
-            (message self.now) depth (resolve (declarations_of self.now.table.now).terms
+        ensures fault_is_true { IfErr result (Breaks (declarations_of (table self.now))
+            (message self.now) depth (resolve (declarations_of (table self.now)).terms
             (ty.named entry)) place (at_of state.old)) }
         ensures spends { Spends state.old.steps state.new.steps 0 (value_work (came self.now)
-            state.old.next (entry_at self.now.table.now entry)) }
+            state.old.next (entry_at (table self.now) entry)) }
     {
-        if self.is_leaf(entry, kind) {
-            return self.read_leaf(entry, kind, place, depth, state);
+        if self.decoder.is_leaf(entry, kind) {
+            return self.decoder.read_leaf(entry, kind, place, depth, state);
         }
-        let e = self.entry(entry);
+        let e = self.decoder.entry(entry);
         let frame = Frame {
             left: Remaining::Rows {
                 first: e.first,

@@ -1,6 +1,6 @@
 //! The elements of an array or vector, each read in place with what it leads to.
-ghost use Rattle.std.specs.Prelude.{◌≡◌, ◌+◌, ◌-◌, ◌^◌, ◌<◌, ◌≤◌, OnOk, IfOk, IfErr, Some};
-ghost use Rattle.std.specs.Prelude.{IsTrue, None, length};
+ghost use Rattle.std.specs.Prelude.{◌≡◌, ◌+◌, ◌-◌, ◌^◌, ◌<◌, ◌≤◌, OnOk, IfOk, IfErr, Some, IsTrue};
+ghost use Rattle.std.specs.Prelude.{None, length};
 ghost use Rattle.fidl_limits.specs.declared.limits.TheConstants.{MAX_DEPTH};
 ghost use Rattle.fidl_wire.specs.Term as ty;
 ghost use Rattle.fidl_wire.specs.Term.{resolve};
@@ -11,16 +11,16 @@ ghost use Rattle.fidl_table_format.specs.Terms.{declarations_of};
 ghost use Rattle.fidl_decode_model.specs.Breaks.{Breaks};
 ghost use Rattle.fidl_decode_model.specs.declared.frame.Remaining.TheVariants as left;
 ghost use Rattle.fidl_decode_model.specs.Machine.{StateFine, FrameFine, BreaksFrame, Turns};
-ghost use Rattle.fidl_decode_model.specs.Machine.{IsInside, Visits, VisitFine};
-ghost use Rattle.fidl_decode_model.specs.Machine.{turn_work, value_work, at_of};
-ghost use Rattle.fidl_decode.specs.Reading.{came, message, Holds};
-ghost use Rattle.fidl_decode.specs.Ready.{CanReadFrame, CanReadValue};
+ghost use Rattle.fidl_decode_model.specs.Machine.{IsInside, Visits, VisitFine, turn_work};
+ghost use Rattle.fidl_decode_model.specs.Machine.{value_work, at_of};
+ghost use Rattle.fidl_decode.specs.Reading.{table, came, message, Holds, CanReadFrame};
+ghost use Rattle.fidl_decode.specs.Reading.{CanReadValue};
 
-use crate::decoder::Decoder;
+use crate::frames::Frames;
 use fidl_decode_model::DecodeFault;
 use fidl_decode_model::frame::{Frame, Remaining, State, Turn};
 
-impl<'t, 'm, 's> Decoder<'t, 'm, 's> {
+impl<'t, 'm, 's> Frames<'t, 'm, 's> {
     /// Reads a value at a place, and what it leads to where that is read in place. What is left of
     /// it, if anything, is to be read next.
     #[inline(always)]
@@ -32,34 +32,35 @@ impl<'t, 'm, 's> Decoder<'t, 'm, 's> {
         in_envelope: u8,
         state: &mut State<'_, '_>,
     ) -> Result<Option<Frame>, DecodeFault>
-        requires entry { entry < (header_of self.now.table.now).entries }
-        requires room { place + (entry_at self.now.table.now entry).size ≤ length (came self.now) }
+        requires entry { entry < (header_of (table self.now)).entries }
+        requires room { place + (entry_at (table self.now) entry).size ≤ length (came self.now) }
         requires holds { Holds self.now state.old }
         requires state { StateFine (message self.now) (at_of state.old) }
         requires ready { CanReadValue self.now state.old entry place }
         requires depth { depth ≤ MAX_DEPTH }
-        requires in_envelope { IsInside in_envelope (entry_at self.now.table.now entry).size }
+        requires in_envelope { IsInside in_envelope (entry_at (table self.now) entry).size }
         requires budget { state.old.steps + value_work (came self.now) state.old.next
-            (entry_at self.now.table.now entry) < 2 ^ 40 }
+            (entry_at (table self.now) entry) < 2 ^ 40 }
         ensures holds { Holds self.now state.new }
-        ensures ok { IfOk result (λ found. Visits self.now.table.now (message self.now) depth entry
+        ensures ok { IfOk result (λ found. Visits (table self.now) (message self.now) depth entry
             place (at_of state.old) (at_of state.new) (state.new.steps - state.old.steps) found) }
-        ensures fine { IfOk result (VisitFine self.now.table.now (message self.now) depth
+        ensures fine { IfOk result (VisitFine (table self.now) (message self.now) depth
             in_envelope entry) }
         ensures grows { OnOk result (state.old.steps ≤ state.new.steps) }
         ensures cost { state.new.steps ≤ state.old.steps + value_work (came self.now)
-            state.old.next (entry_at self.now.table.now entry) }
-        ensures fault_is_true { IfErr result (Breaks (declarations_of self.now.table.now)
-            (message self.now) depth (resolve (declarations_of self.now.table.now).terms
+            state.old.next (entry_at (table self.now) entry) }
+        ensures fault_is_true { IfErr result (Breaks (declarations_of (table self.now))
+            (message self.now) depth (resolve (declarations_of (table self.now)).terms
             (ty.named entry)) place (at_of state.old)) }
     {
-        let Some(below) = self.visit(entry, place, depth, in_envelope, state)? else {
+        let Some(below) = self.decoder.visit(entry, place, depth, in_envelope, state)? else {
             return Ok(None);
         };
         self.read_leaves(below, state)
     }
 
-    /// Reads an element at a place, as `read_item` does. A loop over tables alone has no code for other
+    /// Reads an element at a place, as `read_item` does. A loop over tables alone has no code for
+    /// other
     /// values in it.
     #[inline(always)]
     fn read_element<const TABLES: bool>(
@@ -70,31 +71,31 @@ impl<'t, 'm, 's> Decoder<'t, 'm, 's> {
         in_envelope: u8,
         state: &mut State<'_, '_>,
     ) -> Result<Option<Frame>, DecodeFault>
-        requires entry { entry < (header_of self.now.table.now).entries }
+        requires entry { entry < (header_of (table self.now)).entries }
         requires kind { IsTrue TABLES
-            → kind_of (entry_at self.now.table.now entry).kind ≡ Some kinds.Table }
-        requires room { place + (entry_at self.now.table.now entry).size ≤ length (came self.now) }
+            → kind_of (entry_at (table self.now) entry).kind ≡ Some kinds.Table }
+        requires room { place + (entry_at (table self.now) entry).size ≤ length (came self.now) }
         requires holds { Holds self.now state.old }
         requires state { StateFine (message self.now) (at_of state.old) }
         requires ready { CanReadValue self.now state.old entry place }
         requires depth { depth ≤ MAX_DEPTH }
-        requires in_envelope { IsInside in_envelope (entry_at self.now.table.now entry).size }
+        requires in_envelope { IsInside in_envelope (entry_at (table self.now) entry).size }
         requires budget { state.old.steps + value_work (came self.now) state.old.next
-            (entry_at self.now.table.now entry) < 2 ^ 40 }
+            (entry_at (table self.now) entry) < 2 ^ 40 }
         ensures holds { Holds self.now state.new }
-        ensures ok { IfOk result (λ found. Visits self.now.table.now (message self.now) depth entry
+        ensures ok { IfOk result (λ found. Visits (table self.now) (message self.now) depth entry
             place (at_of state.old) (at_of state.new) (state.new.steps - state.old.steps) found) }
-        ensures fine { IfOk result (VisitFine self.now.table.now (message self.now) depth
+        ensures fine { IfOk result (VisitFine (table self.now) (message self.now) depth
             in_envelope entry) }
         ensures grows { OnOk result (state.old.steps ≤ state.new.steps) }
         ensures cost { state.new.steps ≤ state.old.steps + value_work (came self.now)
-            state.old.next (entry_at self.now.table.now entry) }
-        ensures fault_is_true { IfErr result (Breaks (declarations_of self.now.table.now)
-            (message self.now) depth (resolve (declarations_of self.now.table.now).terms
+            state.old.next (entry_at (table self.now) entry) }
+        ensures fault_is_true { IfErr result (Breaks (declarations_of (table self.now))
+            (message self.now) depth (resolve (declarations_of (table self.now)).terms
             (ty.named entry)) place (at_of state.old)) }
     {
         if TABLES {
-            return self.read_table(entry, place, depth, state);
+            return self.decoder.read_table(entry, place, depth, state);
         }
         self.read_item(entry, place, depth, in_envelope, state)
     }
@@ -112,19 +113,20 @@ impl<'t, 'm, 's> Decoder<'t, 'm, 's> {
     ) -> Result<Turn, DecodeFault>
         requires left { frame.left ≡ left.Elements entry size count }
         requires kind { IsTrue TABLES
-            → kind_of (entry_at self.now.table.now entry).kind ≡ Some kinds.Table }
-        requires frame { FrameFine self.now.table.now (came self.now) frame }
+            → kind_of (entry_at (table self.now) entry).kind ≡ Some kinds.Table }
+        requires frame { FrameFine (table self.now) (came self.now) frame }
         requires holds { Holds self.now state.old }
         requires state { StateFine (message self.now) (at_of state.old) }
         requires ready { CanReadFrame self.now state.old frame }
-        requires budget { state.old.steps + turn_work (came self.now) state.old.next frame < 2 ^ 40 }
+        requires budget { state.old.steps + turn_work (came self.now) state.old.next frame < 2 ^ 40
+            }
         ensures holds { Holds self.now state.new }
-        ensures ok { IfOk result (λ turn. Turns self.now.table.now (message self.now) frame
+        ensures ok { IfOk result (λ turn. Turns (table self.now) (message self.now) frame
             (at_of state.old) (at_of state.new) (state.new.steps - state.old.steps) turn) }
         ensures rises { OnOk result (state.old.steps < state.new.steps) }
         ensures cost { state.new.steps ≤ state.old.steps + turn_work (came self.now) state.old.next
             frame }
-        ensures fault_is_true { IfErr result (BreaksFrame self.now.table.now (message self.now)
+        ensures fault_is_true { IfErr result (BreaksFrame (table self.now) (message self.now)
             frame (at_of state.old)) }
     {
         // A copy, so that writing a link is known to leave it.
@@ -163,7 +165,7 @@ impl<'t, 'm, 's> Decoder<'t, 'm, 's> {
         let behind = own.base as usize + done;
         let stop = own.base as usize + own.size as usize;
         state.steps += (stop - behind) as u64 + 1;
-        self.zeros_at(behind, stop, state)?;
+        self.decoder.zeros_at(behind, stop, state)?;
         Ok(Turn {
             below: None,
             rest: None,

@@ -1,6 +1,6 @@
 //! Structs whose last member is a box: the struct in it takes the place of the one that holds it.
-ghost use Rattle.std.specs.Prelude.{◌≡◌, ◌+◌, ◌-◌, ◌^◌, ◌<◌, ◌≤◌, OnOk, IfOk, IfErr};
-ghost use Rattle.std.specs.Prelude.{IfNone, IsTrue, Some, None, true, []};
+ghost use Rattle.std.specs.Prelude.{◌≡◌, ◌+◌, ◌-◌, ◌^◌, ◌<◌, ◌≤◌, OnOk, IfOk, IfErr, IfNone};
+ghost use Rattle.std.specs.Prelude.{IsTrue, Some, None};
 ghost use Rattle.fidl_table_format.specs.declared.kind.EntryKind.TheVariants as kinds;
 ghost use Rattle.fidl_table_format.specs.Kind.{kind_of};
 ghost use Rattle.fidl_table_format.specs.Section.{header_of, entry_at, row_at};
@@ -8,32 +8,30 @@ ghost use Rattle.fidl_decode_model.specs.Invariants.{is_leaf};
 ghost use Rattle.fidl_decode_model.specs.declared.frame.Remaining.TheVariants as left;
 ghost use Rattle.fidl_decode_model.specs.Steps.{Spends};
 ghost use Rattle.fidl_decode_model.specs.Machine.{StateFine, FrameFine, BreaksFrame, Turns};
-ghost use Rattle.fidl_decode_model.specs.Machine.{IsPlain, IsKnown, rows_left, behind_rows};
-ghost use Rattle.fidl_decode_model.specs.Machine.{turn_work, at_of};
-ghost use Rattle.fidl_decode.specs.Reading.{came, message, Holds};
-ghost use Rattle.fidl_decode.specs.Ready.{CanReadFrame};
+ghost use Rattle.fidl_decode_model.specs.Machine.{IsKnown, turn_work, at_of};
+ghost use Rattle.fidl_decode.specs.Reading.{table, came, message, Holds, CanReadFrame};
 
-use crate::decoder::Decoder;
-use crate::plain::{Plain, rows_from};
+use crate::frames::Frames;
 use fidl_decode_model::DecodeFault;
 use fidl_decode_model::frame::{Frame, Remaining, State};
+use fidl_decode_values::{Plain, rows_from};
 use fidl_table_format::EntryKind;
 
-impl<'t, 'm, 's> Decoder<'t, 'm, 's> {
+impl<'t, 'm, 's> Frames<'t, 'm, 's> {
     /// Whether a row is the last of a struct of this size, and a box behind which nothing is left.
     #[inline(always)]
     fn ends_in_box(&self, first: u32, count: u32, size: usize) -> bool
-        requires within { first + count ≤ (header_of self.now.table.now).rows }
-        ensures { let row = row_at self.now.table.now (header_of self.now.table.now) first in
+        requires within { first + count ≤ (header_of (table self.now)).rows }
+        ensures { let row = row_at (table self.now) (header_of (table self.now)) first in
             IsTrue result → (count ≡ 1)
-            × (kind_of (entry_at self.now.table.now row.entry).kind ≡ Some kinds.Box)
-            × (row.key + (entry_at self.now.table.now row.entry).size ≡ size) }
+            × (kind_of (entry_at (table self.now) row.entry).kind ≡ Some kinds.Box)
+            × (row.key + (entry_at (table self.now) row.entry).size ≡ size) }
     {
         if count != 1 {
             return false;
         }
-        let row = self.row(first);
-        let e = self.entry(row.entry);
+        let row = self.decoder.row(first);
+        let e = self.decoder.entry(row.entry);
         match EntryKind::from_number(e.kind) {
             Some(EntryKind::Box) => row.key as usize + e.size as usize == size,
             _ => false,
@@ -49,107 +47,34 @@ impl<'t, 'm, 's> Decoder<'t, 'm, 's> {
         first: u32,
         state: &mut State<'_, '_>,
     ) -> Result<Option<Frame>, DecodeFault>
-        requires frame { FrameFine self.now.table.now (came self.now) frame }
+        requires frame { FrameFine (table self.now) (came self.now) frame }
         requires left { frame.left ≡ left.Rows first 1 }
-        requires kind { let row = row_at self.now.table.now (header_of self.now.table.now) first in
-            kind_of (entry_at self.now.table.now row.entry).kind ≡ Some kinds.Box }
-        requires whole { let row = row_at self.now.table.now (header_of self.now.table.now) first in
-            row.key + (entry_at self.now.table.now row.entry).size ≡ frame.size }
+        requires kind { let row = row_at (table self.now) (header_of (table self.now)) first in
+            kind_of (entry_at (table self.now) row.entry).kind ≡ Some kinds.Box }
+        requires whole { let row = row_at (table self.now) (header_of (table self.now)) first in
+            row.key + (entry_at (table self.now) row.entry).size ≡ frame.size }
         requires holds { Holds self.now state.old }
         requires state { StateFine (message self.now) (at_of state.old) }
         requires ready { CanReadFrame self.now state.old frame }
-        requires budget { state.old.steps + turn_work (came self.now) state.old.next frame < 2 ^ 40 }
+        requires budget { state.old.steps + turn_work (came self.now) state.old.next frame < 2 ^ 40
+            }
         ensures holds { Holds self.now state.new }
         ensures ok { IfOk result
-            (λ rest. Turns self.now.table.now (message self.now)
+            (λ rest. Turns (table self.now) (message self.now)
             frame (at_of state.old) (at_of state.new) (state.new.steps - state.old.steps)
             (record { below = None; rest = rest })) }
         ensures spends { Spends state.old.steps state.new.steps 1 (turn_work (came self.now)
             state.old.next frame) }
-        ensures fault_is_true { IfErr result (BreaksFrame self.now.table.now (message self.now)
+        ensures fault_is_true { IfErr result (BreaksFrame (table self.now) (message self.now)
             frame (at_of state.old)) }
     {
-        let row = self.row(first);
+        let row = self.decoder.row(first);
         let read = frame.base as usize + frame.done as usize;
         let place = frame.base as usize + row.key as usize;
         state.steps += (place - read) as u64 + 1;
-        self.zeros_at(read, place, state)?;
-        let below = self.read_box(row.entry, place, frame.depth, state)?;
+        self.decoder.zeros_at(read, place, state)?;
+        let below = self.decoder.read_box(row.entry, place, frame.depth, state)?;
         Ok(below)
-    }
-
-    /// Reads the next row of a struct, which is a leaf, and the zeros before it.
-    #[inline(always)]
-    pub(crate) fn read_row(
-        &self,
-        frame: Frame,
-        first: u32,
-        count: u32,
-        kind: EntryKind,
-        state: &mut State<'_, '_>,
-    ) -> Result<(), DecodeFault>
-        requires frame { FrameFine self.now.table.now (came self.now) frame }
-        requires left { frame.left ≡ left.Rows first count }
-        requires some { 0 < count }
-        requires kind { let row = row_at self.now.table.now (header_of self.now.table.now) first in
-            kind_of (entry_at self.now.table.now row.entry).kind ≡ Some kind }
-        requires leaf { let row = row_at self.now.table.now (header_of self.now.table.now) first in
-            is_leaf self.now.table.now (entry_at self.now.table.now row.entry) kind ≡ true }
-        requires holds { Holds self.now state.old }
-        requires state { StateFine (message self.now) (at_of state.old) }
-        requires ready { CanReadFrame self.now state.old frame }
-        requires budget { state.old.steps + turn_work (came self.now) state.old.next frame < 2 ^ 40 }
-        ensures holds { Holds self.now state.new }
-        ensures ok { let row = row_at self.now.table.now (header_of self.now.table.now) first in
-            let done = row.key + (entry_at self.now.table.now row.entry).size in
-            OnOk result (Turns self.now.table.now
-            (message self.now) frame (at_of state.old)
-            (at_of state.new) (state.new.steps - state.old.steps) (record {
-              below = None;
-              rest = Some (behind_rows frame (first + 1) (count - 1) done);
-            })) }
-        ensures spends { Spends state.old.steps state.new.steps 1 (turn_work (came self.now)
-            state.old.next frame) }
-        ensures fault_is_true { IfErr result (BreaksFrame self.now.table.now (message self.now)
-            frame (at_of state.old)) }
-    {
-        let row = self.row(first);
-        let front = frame.base as usize + frame.done as usize;
-        let place = frame.base as usize + row.key as usize;
-        state.steps += (place - front) as u64 + 1;
-        self.zeros_at(front, place, state)?;
-        self.read_leaf(row.entry, kind, place, frame.depth, state)?;
-        Ok(())
-    }
-
-    /// Reads the zeros behind the last row of a struct. Nothing is left then.
-    #[inline(always)]
-    pub(crate) fn end_rows(
-        &self,
-        frame: Frame,
-        state: &mut State<'_, '_>,
-    ) -> Result<(), DecodeFault>
-        requires frame { FrameFine self.now.table.now (came self.now) frame }
-        requires plain { IsPlain frame.left }
-        requires over { rows_left self.now.table.now frame.done frame.left ≡ [] }
-        requires holds { Holds self.now state.old }
-        requires state { StateFine (message self.now) (at_of state.old) }
-        requires ready { CanReadFrame self.now state.old frame }
-        requires budget { state.old.steps + turn_work (came self.now) state.old.next frame < 2 ^ 40 }
-        ensures holds { Holds self.now state.new }
-        ensures ok { OnOk result
-            (Turns self.now.table.now (message self.now) frame
-            (at_of state.old) (at_of state.new) (state.new.steps - state.old.steps)
-            (record { below = None; rest = None })) }
-        ensures spends { Spends state.old.steps state.new.steps 1 (turn_work (came self.now)
-            state.old.next frame) }
-        ensures fault_is_true { IfErr result (BreaksFrame self.now.table.now (message self.now)
-            frame (at_of state.old)) }
-    {
-        let over = frame.base as usize + frame.done as usize;
-        let stop = frame.base as usize + frame.size as usize;
-        state.steps += (stop - over) as u64 + 1;
-        self.zeros_at(over, stop, state)
     }
 
     /// Reads the rows of a struct in place, and those of the struct in the box that its last member
@@ -161,42 +86,43 @@ impl<'t, 'm, 's> Decoder<'t, 'm, 's> {
         known: &Plain,
         state: &mut State<'_, '_>,
     ) -> Result<Option<Frame>, DecodeFault>
-        requires frame { FrameFine self.now.table.now (came self.now) frame }
-        requires known { IsKnown self.now.table.now (message self.now) known.now.rows
+        requires frame { FrameFine (table self.now) (came self.now) frame }
+        requires known { IsKnown (table self.now) (message self.now) known.now.rows
             known.now.first known.now.count known.now.done known.now.flag }
         requires holds { Holds self.now state.old }
         requires state { StateFine (message self.now) (at_of state.old) }
         requires ready { CanReadFrame self.now state.old frame }
-        requires budget { state.old.steps + turn_work (came self.now) state.old.next frame < 2 ^ 40 }
+        requires budget { state.old.steps + turn_work (came self.now) state.old.next frame < 2 ^ 40
+            }
         ensures holds { Holds self.now state.new }
         ensures ok { IfOk result
-            (λ rest. Turns self.now.table.now (message self.now)
+            (λ rest. Turns (table self.now) (message self.now)
             frame (at_of state.old) (at_of state.new) (state.new.steps - state.old.steps)
             (record { below = None; rest = rest })) }
         ensures grows { OnOk result (state.old.steps ≤ state.new.steps) }
         ensures ended { IfOk result (λ rest. IfNone rest (state.old.steps < state.new.steps)) }
         ensures cost { state.new.steps ≤ state.old.steps + turn_work (came self.now) state.old.next
             frame }
-        ensures fault_is_true { IfErr result (BreaksFrame self.now.table.now (message self.now)
+        ensures fault_is_true { IfErr result (BreaksFrame (table self.now) (message self.now)
             frame (at_of state.old)) }
     {
         let Remaining::Rows { first, count } = frame.left else {
             return Ok(Some(frame));
         };
         // Read, so that the number of rows, and with it each row's, is known to have 32 bits.
-        let _rows = self.table.rows();
+        let _rows = self.decoder.table.rows();
         let mut holder = frame;
         let mut next = first;
         let mut many = count;
         let mut done = frame.done as usize;
         while many != 0 {
             let rest = rows_from(holder, next, many, done);
-            let row = self.row(next);
-            let e = self.entry(row.entry);
+            let row = self.decoder.row(next);
+            let e = self.decoder.entry(row.entry);
             let Some(kind) = EntryKind::from_number(e.kind) else {
                 unreachable!()
             };
-            if self.is_leaf(row.entry, kind) {
+            if self.decoder.is_leaf(row.entry, kind) {
                 self.read_row(rest, next, many, kind, state)?;
                 done = row.key as usize + e.size as usize;
                 next += 1;
@@ -209,7 +135,7 @@ impl<'t, 'm, 's> Decoder<'t, 'm, 's> {
             let Some(below) = self.enter_box(rest, next, state)? else {
                 return Ok(None);
             };
-            let content = self.pass_known(below, known, state);
+            let content = self.decoder.pass_known(below, known, state);
             let Remaining::Rows {
                 first: front,
                 count: behind,
@@ -233,27 +159,28 @@ impl<'t, 'm, 's> Decoder<'t, 'm, 's> {
         frame: Frame,
         state: &mut State<'_, '_>,
     ) -> Result<Option<Frame>, DecodeFault>
-        requires frame { FrameFine self.now.table.now (came self.now) frame }
+        requires frame { FrameFine (table self.now) (came self.now) frame }
         requires holds { Holds self.now state.old }
         requires state { StateFine (message self.now) (at_of state.old) }
         requires ready { CanReadFrame self.now state.old frame }
-        requires budget { state.old.steps + turn_work (came self.now) state.old.next frame < 2 ^ 40 }
+        requires budget { state.old.steps + turn_work (came self.now) state.old.next frame < 2 ^ 40
+            }
         ensures holds { Holds self.now state.new }
         ensures ok { IfOk result
-            (λ rest. Turns self.now.table.now (message self.now)
+            (λ rest. Turns (table self.now) (message self.now)
             frame (at_of state.old) (at_of state.new) (state.new.steps - state.old.steps)
             (record { below = None; rest = rest })) }
         ensures grows { OnOk result (state.old.steps ≤ state.new.steps) }
         ensures ended { IfOk result (λ rest. IfNone rest (state.old.steps < state.new.steps)) }
         ensures cost { state.new.steps ≤ state.old.steps + turn_work (came self.now) state.old.next
             frame }
-        ensures fault_is_true { IfErr result (BreaksFrame self.now.table.now (message self.now)
+        ensures fault_is_true { IfErr result (BreaksFrame (table self.now) (message self.now)
             frame (at_of state.old)) }
     {
         let Remaining::Rows { first, count } = frame.left else {
             return Ok(Some(frame));
         };
-        let known = self.plain_below(first, count);
+        let known = self.decoder.plain_below(first, count);
         self.read_nested(frame, &known, state)
     }
 }

@@ -1,6 +1,6 @@
 //! The envelopes of a table, and their members, which are read in place.
-ghost use Rattle.std.specs.Prelude.{◌≡◌, ◌+◌, ◌-◌, ◌*◌, ◌^◌, ◌<◌, ◌≤◌, OnOk, IfOk, IfErr};
-ghost use Rattle.std.specs.Prelude.{IfSome, IfNone, IsTrue, Some, None, length};
+ghost use Rattle.std.specs.Prelude.{◌≡◌, ◌+◌, ◌-◌, ◌*◌, ◌^◌, ◌<◌, ◌≤◌, OnOk, IfOk, IfErr, IfSome};
+ghost use Rattle.std.specs.Prelude.{IfNone, IsTrue, Some, None, length};
 ghost use Rattle.fidl_limits.specs.declared.limits.TheConstants.{MAX_DEPTH, MAX_MESSAGE_BYTES};
 ghost use Rattle.fidl_wire.specs.Term as ty;
 ghost use Rattle.fidl_wire.specs.Term.{find};
@@ -12,14 +12,13 @@ ghost use Rattle.fidl_table_format.specs.Entry.{kind_is};
 ghost use Rattle.fidl_decode_model.specs.Breaks.{BreaksMember};
 ghost use Rattle.fidl_decode_model.specs.Invariants.{IsFlat};
 ghost use Rattle.fidl_decode_model.specs.declared.frame.Remaining.TheVariants as left;
-ghost use Rattle.fidl_decode_model.specs.Machine.{StateFine, FrameFine, Turns, BreaksFrame};
-ghost use Rattle.fidl_decode_model.specs.Machine.{Opens, PaysEnvelope, member_term};
-ghost use Rattle.fidl_decode_model.specs.Machine.{behind_envelopes};
+ghost use Rattle.fidl_decode_model.specs.Machine.{StateFine, FrameFine, Turns, BreaksFrame, Opens};
+ghost use Rattle.fidl_decode_model.specs.Machine.{PaysEnvelope, member_term, behind_envelopes};
 ghost use Rattle.fidl_decode_model.specs.Machine.{byte_work, envelope_work, turn_work, at_of};
-ghost use Rattle.fidl_decode.specs.Reading.{came, message, Holds};
-ghost use Rattle.fidl_decode.specs.Ready.{CanReadFrame, CanReadPlace};
+ghost use Rattle.fidl_decode.specs.Reading.{table, came, message, Holds, CanReadFrame};
+ghost use Rattle.fidl_decode.specs.Reading.{CanReadPlace};
 
-use crate::decoder::Decoder;
+use crate::frames::Frames;
 use fidl_decode_model::DecodeFault;
 use fidl_decode_model::frame::{Frame, Remaining, State, Turn};
 use fidl_table_format::{Entry, EntryKind, Row};
@@ -41,7 +40,7 @@ fn envelopes_from(frame: Frame, entry: u32, read: u32, count: u32, done: usize) 
     }
 }
 
-impl<'t, 'm, 's> Decoder<'t, 'm, 's> {
+impl<'t, 'm, 's> Frames<'t, 'm, 's> {
     /// Reads the member of the envelope at a place in place, which is a leaf or a struct of leaves.
     #[inline(always)]
     fn read_enclosed(
@@ -52,9 +51,9 @@ impl<'t, 'm, 's> Decoder<'t, 'm, 's> {
         depth: u8,
         state: &mut State<'_, '_>,
     ) -> Result<(), DecodeFault>
-        requires entry { entry < (header_of self.now.table.now).entries }
-        requires kind { kind_of (entry_at self.now.table.now entry).kind ≡ Some kind }
-        requires flat { IsFlat self.now.table.now (entry_at self.now.table.now entry) kind }
+        requires entry { entry < (header_of (table self.now)).entries }
+        requires kind { kind_of (entry_at (table self.now) entry).kind ≡ Some kind }
+        requires flat { IsFlat (table self.now) (entry_at (table self.now) entry) kind }
         requires room { envelope + 8 ≤ length (came self.now) }
         requires holds { Holds self.now state.old }
         requires state { StateFine (message self.now) (at_of state.old) }
@@ -63,18 +62,18 @@ impl<'t, 'm, 's> Decoder<'t, 'm, 's> {
         requires budget { state.old.steps + byte_work * (length (came self.now) - state.old.next) +
             envelope_work < 2 ^ 40 }
         ensures holds { Holds self.now state.new }
-        ensures ok { OnOk result (Opens self.now.table.now (message self.now) depth (Some
+        ensures ok { OnOk result (Opens (table self.now) (message self.now) depth (Some
             (ty.named entry)) envelope (at_of state.old) (at_of state.new)
             (state.new.steps - state.old.steps) None) }
         ensures pays { OnOk result (PaysEnvelope (came self.now) state.old.next state.new.next
             (state.new.steps - state.old.steps) None) }
-        ensures fault_is_true { IfErr result (BreaksMember (declarations_of self.now.table.now)
+        ensures fault_is_true { IfErr result (BreaksMember (declarations_of (table self.now))
             (message self.now) depth (Some (ty.named entry)) envelope (at_of state.old)) }
         ensures grows { OnOk result (state.old.steps ≤ state.new.steps) }
         ensures cost { state.new.steps ≤ state.old.steps + byte_work * (length (came self.now) -
             state.old.next) + envelope_work }
     {
-        let frame = self.enter_member(entry, envelope, depth, state)?;
+        let frame = self.decoder.enter_member(entry, envelope, depth, state)?;
         let Remaining::Content { size, until, .. } = frame.left else {
             unreachable!()
         };
@@ -91,7 +90,7 @@ impl<'t, 'm, 's> Decoder<'t, 'm, 's> {
         depth: u8,
         state: &mut State<'_, '_>,
     ) -> Result<Option<Frame>, DecodeFault>
-        requires entry { entry < (header_of self.now.table.now).entries }
+        requires entry { entry < (header_of (table self.now)).entries }
         requires room { envelope + 8 ≤ length (came self.now) }
         requires holds { Holds self.now state.old }
         requires state { StateFine (message self.now) (at_of state.old) }
@@ -100,29 +99,29 @@ impl<'t, 'm, 's> Decoder<'t, 'm, 's> {
         requires budget { state.old.steps + byte_work * (length (came self.now) - state.old.next) +
             envelope_work < 2 ^ 40 }
         ensures holds { Holds self.now state.new }
-        ensures ok { IfOk result (Opens self.now.table.now (message self.now) depth (Some
+        ensures ok { IfOk result (Opens (table self.now) (message self.now) depth (Some
             (ty.named entry)) envelope (at_of state.old) (at_of state.new)
             (state.new.steps - state.old.steps)) }
         ensures pays { IfOk result (PaysEnvelope (came self.now) state.old.next state.new.next
             (state.new.steps - state.old.steps)) }
-        ensures fault_is_true { IfErr result (BreaksMember (declarations_of self.now.table.now)
+        ensures fault_is_true { IfErr result (BreaksMember (declarations_of (table self.now))
             (message self.now) depth (Some (ty.named entry)) envelope (at_of state.old)) }
         ensures grows { OnOk result (state.old.steps ≤ state.new.steps) }
         ensures cost { state.new.steps ≤ state.old.steps + byte_work * (length (came self.now) -
             state.old.next) + envelope_work }
     {
-        if self.pass_member(entry, envelope, depth, state) {
+        if self.decoder.pass_member(entry, envelope, depth, state) {
             return Ok(None);
         }
-        let e = self.entry(entry);
+        let e = self.decoder.entry(entry);
         let Some(kind) = EntryKind::from_number(e.kind) else {
             unreachable!()
         };
-        if self.is_flat(entry, kind) {
+        if self.decoder.is_flat(entry, kind) {
             self.read_enclosed(entry, kind, envelope, depth, state)?;
             return Ok(None);
         }
-        let frame = self.enter_member(entry, envelope, depth, state)?;
+        let frame = self.decoder.enter_member(entry, envelope, depth, state)?;
         Ok(Some(frame))
     }
 
@@ -137,7 +136,7 @@ impl<'t, 'm, 's> Decoder<'t, 'm, 's> {
         state: &mut State<'_, '_>,
     ) -> Result<Option<Frame>, DecodeFault>
         requires member { IfSome member
-            (λ row. row.entry < (header_of self.now.table.now).entries) }
+            (λ row. row.entry < (header_of (table self.now)).entries) }
         requires room { envelope + 8 ≤ length (came self.now) }
         requires holds { Holds self.now state.old }
         requires state { StateFine (message self.now) (at_of state.old) }
@@ -146,19 +145,19 @@ impl<'t, 'm, 's> Decoder<'t, 'm, 's> {
         requires budget { state.old.steps + byte_work * (length (came self.now) - state.old.next) +
             envelope_work < 2 ^ 40 }
         ensures holds { Holds self.now state.new }
-        ensures ok { IfOk result (Opens self.now.table.now (message self.now) depth
+        ensures ok { IfOk result (Opens (table self.now) (message self.now) depth
             (member_term member) envelope (at_of state.old) (at_of state.new)
             (state.new.steps - state.old.steps)) }
         ensures pays { IfOk result (PaysEnvelope (came self.now) state.old.next state.new.next
             (state.new.steps - state.old.steps)) }
-        ensures fault_is_true { IfErr result (BreaksMember (declarations_of self.now.table.now)
+        ensures fault_is_true { IfErr result (BreaksMember (declarations_of (table self.now))
             (message self.now) depth (member_term member) envelope (at_of state.old)) }
         ensures grows { OnOk result (state.old.steps ≤ state.new.steps) }
         ensures cost { state.new.steps ≤ state.old.steps + byte_work * (length (came self.now) -
             state.old.next) + envelope_work }
     {
         let Some(row) = member else {
-            self.skip_member(envelope, depth, state)?;
+            self.decoder.skip_member(envelope, depth, state)?;
             return Ok(None);
         };
         self.read_known(row.entry, envelope, depth, state)
@@ -168,28 +167,28 @@ impl<'t, 'm, 's> Decoder<'t, 'm, 's> {
     /// has where all ordinals below it are members. The probes of a search behind that are counted.
     #[inline(always)]
     fn row_of(&self, entry: u32, parts: &Entry, ordinal: u32, probes: &mut u64) -> Option<Row>
-        requires entry { entry < (header_of self.now.table.now).entries }
-        requires kind { IsTrue (kind_is uses_ordinals (entry_at self.now.table.now entry)) }
-        requires parts { parts.now ≡ entry_at self.now.table.now entry }
+        requires entry { entry < (header_of (table self.now)).entries }
+        requires kind { IsTrue (kind_is uses_ordinals (entry_at (table self.now) entry)) }
+        requires parts { parts.now ≡ entry_at (table self.now) entry }
         requires some { 0 < ordinal }
         requires budget { probes.old < 2 ^ 62 }
-        ensures none { IfNone result (find (members_of self.now.table.now entry) ordinal ≡ None) }
-        ensures some { IfSome result (λ row. find (members_of self.now.table.now entry) ordinal
+        ensures none { IfNone result (find (members_of (table self.now) entry) ordinal ≡ None) }
+        ensures some { IfSome result (λ row. find (members_of (table self.now) entry) ordinal
             ≡ Some (ty.named row.entry)) }
         ensures entry_below { IfSome result
-            (λ row. row.entry < (header_of self.now.table.now).entries) }
+            (λ row. row.entry < (header_of (table self.now)).entries) }
         ensures grows { probes.old ≤ probes.new }
         ensures few { probes.new ≤ probes.old + 17 }
     {
         // Read, so that the number of rows, and with it each row's, is known to have 32 bits.
-        let _rows = self.table.rows();
+        let _rows = self.decoder.table.rows();
         if ordinal <= parts.count {
-            let row = self.row(parts.first + (ordinal - 1));
+            let row = self.decoder.row(parts.first + (ordinal - 1));
             if row.key == ordinal {
                 return Some(row);
             }
         }
-        self.table.member(entry, u64::from(ordinal), probes)
+        self.decoder.table.member(entry, u64::from(ordinal), probes)
     }
 
     /// Reads the next envelope of a table, with its member, in place. What is left of the member is
@@ -205,16 +204,17 @@ impl<'t, 'm, 's> Decoder<'t, 'm, 's> {
         state: &mut State<'_, '_>,
     ) -> Result<Option<Frame>, DecodeFault>
         requires left { frame.left ≡ left.Envelopes entry read count }
-        requires parts { parts.now ≡ entry_at self.now.table.now entry }
+        requires parts { parts.now ≡ entry_at (table self.now) entry }
         requires some { 0 < count }
-        requires frame { FrameFine self.now.table.now (came self.now) frame }
+        requires frame { FrameFine (table self.now) (came self.now) frame }
         requires holds { Holds self.now state.old }
         requires state { StateFine (message self.now) (at_of state.old) }
         requires ready { CanReadFrame self.now state.old frame }
-        requires budget { state.old.steps + turn_work (came self.now) state.old.next frame < 2 ^ 40 }
+        requires budget { state.old.steps + turn_work (came self.now) state.old.next frame < 2 ^ 40
+            }
         ensures holds { Holds self.now state.new }
         ensures ok { IfOk result
-            (λ below. Turns self.now.table.now (message self.now)
+            (λ below. Turns (table self.now) (message self.now)
             frame (at_of state.old) (at_of state.new) (state.new.steps - state.old.steps)
             (record {
               below = below;
@@ -223,12 +223,12 @@ impl<'t, 'm, 's> Decoder<'t, 'm, 's> {
         ensures rises { OnOk result (state.old.steps < state.new.steps) }
         ensures cost { state.new.steps ≤ state.old.steps + turn_work (came self.now) state.old.next
             frame }
-        ensures fault_is_true { IfErr result (BreaksFrame self.now.table.now (message self.now)
+        ensures fault_is_true { IfErr result (BreaksFrame (table self.now) (message self.now)
             frame (at_of state.old)) }
     {
         state.steps += 1;
         let place = frame.base as usize + frame.done as usize;
-        if self.is_absent(place, state) {
+        if self.decoder.is_absent(place, state) {
             return Ok(None);
         }
         let ordinal = read + 1;
@@ -247,21 +247,22 @@ impl<'t, 'm, 's> Decoder<'t, 'm, 's> {
         state: &mut State<'_, '_>,
     ) -> Result<Turn, DecodeFault>
         requires left { frame.left ≡ left.Envelopes entry read count }
-        requires frame { FrameFine self.now.table.now (came self.now) frame }
+        requires frame { FrameFine (table self.now) (came self.now) frame }
         requires holds { Holds self.now state.old }
         requires state { StateFine (message self.now) (at_of state.old) }
         requires ready { CanReadFrame self.now state.old frame }
-        requires budget { state.old.steps + turn_work (came self.now) state.old.next frame < 2 ^ 40 }
+        requires budget { state.old.steps + turn_work (came self.now) state.old.next frame < 2 ^ 40
+            }
         ensures holds { Holds self.now state.new }
-        ensures ok { IfOk result (λ turn. Turns self.now.table.now (message self.now) frame
+        ensures ok { IfOk result (λ turn. Turns (table self.now) (message self.now) frame
             (at_of state.old) (at_of state.new) (state.new.steps - state.old.steps) turn) }
         ensures rises { OnOk result (state.old.steps < state.new.steps) }
         ensures cost { state.new.steps ≤ state.old.steps + turn_work (came self.now) state.old.next
             frame }
-        ensures fault_is_true { IfErr result (BreaksFrame self.now.table.now (message self.now)
+        ensures fault_is_true { IfErr result (BreaksFrame (table self.now) (message self.now)
             frame (at_of state.old)) }
     {
-        let parts = self.entry(entry);
+        let parts = self.decoder.entry(entry);
         let mut passed = read;
         let mut many = count;
         let mut done = frame.done as usize;

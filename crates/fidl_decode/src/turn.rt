@@ -1,31 +1,25 @@
 //! A turn of the decoder: it reads members of a frame in place, up to one that leads to more than
 //! it reads there.
 ghost use Rattle.std.specs.Prelude.{◌≡◌, ◌+◌, ◌-◌, ◌^◌, ◌<◌, ◌≤◌, ◌↔◌, OnOk, IfOk, IfErr, Some};
-ghost use Rattle.std.specs.Prelude.{None, IsTrue, IsFalse, length};
-ghost use Rattle.fidl_limits.specs.declared.limits.TheConstants.{MAX_DEPTH};
-ghost use Rattle.fidl_wire.specs.Term as ty;
-ghost use Rattle.fidl_wire.specs.Term.{resolve};
+ghost use Rattle.std.specs.Prelude.{None, IsTrue, IsFalse};
 ghost use Rattle.fidl_table_format.specs.declared.kind.EntryKind.TheVariants as kinds;
 ghost use Rattle.fidl_table_format.specs.Kind.{kind_of};
 ghost use Rattle.fidl_table_format.specs.Section.{header_of, entry_at};
-ghost use Rattle.fidl_table_format.specs.Terms.{declarations_of};
-ghost use Rattle.fidl_decode_model.specs.Breaks.{Breaks};
 ghost use Rattle.fidl_decode_model.specs.declared.frame.Remaining.TheVariants as left;
 ghost use Rattle.fidl_decode_model.specs.Invariants.{AreLeaves};
 ghost use Rattle.fidl_decode_model.specs.Machine.{StateFine, FrameFine, BreaksFrame, Turns};
-ghost use Rattle.fidl_decode_model.specs.Machine.{IsInside, Visits, VisitFine};
-ghost use Rattle.fidl_decode_model.specs.Machine.{turn_work, value_work, at_of};
+ghost use Rattle.fidl_decode_model.specs.Machine.{turn_work, at_of};
 ghost use Rattle.fidl_decode.specs.Over.{IsOver};
-ghost use Rattle.fidl_decode.specs.Reading.{came, message, Holds};
-ghost use Rattle.fidl_decode.specs.Ready.{CanReadFrame, CanReadValue};
+ghost use Rattle.fidl_decode.specs.Reading.{table, came, message, Holds, CanReadFrame};
 
-use crate::decoder::Decoder;
+use crate::frames::Frames;
 use fidl_decode_columns::Columns;
 use fidl_decode_model::DecodeFault;
 use fidl_decode_model::frame::{Frame, Remaining, State, Turn};
 use fidl_table_format::EntryKind;
 
-/// So many structs of numbers are read one after another, since to check them member by member costs
+/// So many structs of numbers are read one after another, since to check them member by member
+/// costs
 /// more before the first of them.
 const FEW_STRUCTS: u32 = 2;
 
@@ -40,7 +34,7 @@ fn is_over(frame: &Frame) -> bool
     }
 }
 
-impl<'t, 'm, 's> Decoder<'t, 'm, 's> {
+impl<'t, 'm, 's> Frames<'t, 'm, 's> {
     /// Reads structs of an array or vector in place, up to a struct that holds more than leaves:
     /// that one, where it stopped, is to be read next. Vectors of structs of leaves have a loop of
     /// their own.
@@ -53,27 +47,28 @@ impl<'t, 'm, 's> Decoder<'t, 'm, 's> {
         state: &mut State<'_, '_>,
     ) -> Result<Turn, DecodeFault>
         requires left { frame.left ≡ left.Elements entry size count }
-        requires entry { entry < (header_of self.now.table.now).entries }
-        requires kind { kind_of (entry_at self.now.table.now entry).kind ≡ Some kinds.Struct }
-        requires leaves { let e = entry_at self.now.table.now entry in
-            IsTrue FLAT → AreLeaves self.now.table.now e.first e.count }
-        requires frame { FrameFine self.now.table.now (came self.now) frame }
+        requires entry { entry < (header_of (table self.now)).entries }
+        requires kind { kind_of (entry_at (table self.now) entry).kind ≡ Some kinds.Struct }
+        requires leaves { let e = entry_at (table self.now) entry in
+            IsTrue FLAT → AreLeaves (table self.now) e.first e.count }
+        requires frame { FrameFine (table self.now) (came self.now) frame }
         requires holds { Holds self.now state.old }
         requires state { StateFine (message self.now) (at_of state.old) }
         requires ready { CanReadFrame self.now state.old frame }
-        requires budget { state.old.steps + turn_work (came self.now) state.old.next frame < 2 ^ 40 }
+        requires budget { state.old.steps + turn_work (came self.now) state.old.next frame < 2 ^ 40
+            }
         ensures holds { Holds self.now state.new }
-        ensures ok { IfOk result (λ turn. Turns self.now.table.now (message self.now) frame
+        ensures ok { IfOk result (λ turn. Turns (table self.now) (message self.now) frame
             (at_of state.old) (at_of state.new) (state.new.steps - state.old.steps) turn) }
         ensures rises { OnOk result (state.old.steps < state.new.steps) }
         ensures cost { state.new.steps ≤ state.old.steps + turn_work (came self.now) state.old.next
             frame }
-        ensures fault_is_true { IfErr result (BreaksFrame self.now.table.now (message self.now)
+        ensures fault_is_true { IfErr result (BreaksFrame (table self.now) (message self.now)
             frame (at_of state.old)) }
     {
-        let e = self.entry(entry);
-        let plain = self.plain_rows(e.first, e.count);
-        let known = self.plain_below(e.first, e.count);
+        let e = self.decoder.entry(entry);
+        let plain = self.decoder.plain_rows(e.first, e.count);
+        let known = self.decoder.plain_below(e.first, e.count);
         let mut done = frame.done as usize;
         for i in 0..count {
             let place = frame.base as usize + done;
@@ -114,14 +109,15 @@ impl<'t, 'm, 's> Decoder<'t, 'm, 's> {
         let behind = frame.base as usize + done;
         let stop = frame.base as usize + frame.size as usize;
         state.steps += (stop - behind) as u64 + 1;
-        self.zeros_at(behind, stop, state)?;
+        self.decoder.zeros_at(behind, stop, state)?;
         Ok(Turn {
             below: None,
             rest: None,
         })
     }
 
-    /// Checks the structs of an array or vector member by member, where no struct is read yet and their
+    /// Checks the structs of an array or vector member by member, where no struct is read yet and
+    /// their
     /// members are numbers alone. Else nothing is read.
     #[inline(never)]
     fn check_columns(
@@ -134,23 +130,24 @@ impl<'t, 'm, 's> Decoder<'t, 'm, 's> {
     ) -> Result<bool, DecodeFault>
         requires left { frame.left ≡ left.Elements entry size count }
         requires some { 0 < count }
-        requires entry { entry < (header_of self.now.table.now).entries }
-        requires kind { kind_of (entry_at self.now.table.now entry).kind ≡ Some kinds.Struct }
-        requires frame { FrameFine self.now.table.now (came self.now) frame }
+        requires entry { entry < (header_of (table self.now)).entries }
+        requires kind { kind_of (entry_at (table self.now) entry).kind ≡ Some kinds.Struct }
+        requires frame { FrameFine (table self.now) (came self.now) frame }
         requires holds { Holds self.now state.old }
         requires state { StateFine (message self.now) (at_of state.old) }
         requires ready { CanReadFrame self.now state.old frame }
-        requires budget { state.old.steps + turn_work (came self.now) state.old.next frame < 2 ^ 40 }
+        requires budget { state.old.steps + turn_work (came self.now) state.old.next frame < 2 ^ 40
+            }
         ensures holds { Holds self.now state.new }
         ensures ok { IfOk result (λ all. IsTrue all
-            → Turns self.now.table.now (message self.now) frame
+            → Turns (table self.now) (message self.now) frame
             (at_of state.old) (at_of state.new) (state.new.steps - state.old.steps)
             (record { below = None; rest = None })) }
         ensures rises { IfOk result (λ all. IsTrue all → state.old.steps < state.new.steps) }
         ensures kept { IfOk result (λ all. IsFalse all → state.new ≡ state.old) }
         ensures cost { state.new.steps ≤ state.old.steps + turn_work (came self.now) state.old.next
             frame }
-        ensures fault_is_true { IfErr result (BreaksFrame self.now.table.now (message self.now)
+        ensures fault_is_true { IfErr result (BreaksFrame (table self.now) (message self.now)
             frame (at_of state.old)) }
     {
         // Structs of numbers are read whole, so none is left to go on with.
@@ -158,9 +155,9 @@ impl<'t, 'm, 's> Decoder<'t, 'm, 's> {
             return Ok(false);
         }
         let columns = Columns {
-            table: self.table,
+            table: self.decoder.table,
             links: &state.links,
-            handles: self.handles,
+            handles: self.decoder.handles,
         };
         columns.check_structs(frame, entry, size, count, &mut state.steps)
     }
@@ -168,20 +165,21 @@ impl<'t, 'm, 's> Decoder<'t, 'm, 's> {
     /// Whether no struct of an array or vector is read yet, and their members are leaves.
     #[inline(always)]
     fn are_structs_of_leaves(&self, frame: &Frame, entry: u32) -> bool
-        requires entry { entry < (header_of self.now.table.now).entries }
-        requires kind { kind_of (entry_at self.now.table.now entry).kind ≡ Some kinds.Struct }
-        ensures { let e = entry_at self.now.table.now entry in
-            IsTrue result → AreLeaves self.now.table.now e.first e.count }
+        requires entry { entry < (header_of (table self.now)).entries }
+        requires kind { kind_of (entry_at (table self.now) entry).kind ≡ Some kinds.Struct }
+        ensures { let e = entry_at (table self.now) entry in
+            IsTrue result → AreLeaves (table self.now) e.first e.count }
     {
         // Structs of leaves are read whole, so none is left to go on with.
         if frame.done != 0 {
             return false;
         }
-        let e = self.entry(entry);
-        self.are_leaves(e.first, e.count)
+        let e = self.decoder.entry(entry);
+        self.decoder.are_leaves(e.first, e.count)
     }
 
-    /// Reads structs of an array or vector in place: member by member where these are numbers alone,
+    /// Reads structs of an array or vector in place: member by member where these are numbers
+    /// alone,
     /// else up to a struct that holds more than leaves.
     #[inline(always)]
     fn take_structs(
@@ -194,20 +192,21 @@ impl<'t, 'm, 's> Decoder<'t, 'm, 's> {
     ) -> Result<Turn, DecodeFault>
         requires left { frame.left ≡ left.Elements entry size count }
         requires some { 0 < count }
-        requires entry { entry < (header_of self.now.table.now).entries }
-        requires kind { kind_of (entry_at self.now.table.now entry).kind ≡ Some kinds.Struct }
-        requires frame { FrameFine self.now.table.now (came self.now) frame }
+        requires entry { entry < (header_of (table self.now)).entries }
+        requires kind { kind_of (entry_at (table self.now) entry).kind ≡ Some kinds.Struct }
+        requires frame { FrameFine (table self.now) (came self.now) frame }
         requires holds { Holds self.now state.old }
         requires state { StateFine (message self.now) (at_of state.old) }
         requires ready { CanReadFrame self.now state.old frame }
-        requires budget { state.old.steps + turn_work (came self.now) state.old.next frame < 2 ^ 40 }
+        requires budget { state.old.steps + turn_work (came self.now) state.old.next frame < 2 ^ 40
+            }
         ensures holds { Holds self.now state.new }
-        ensures ok { IfOk result (λ turn. Turns self.now.table.now (message self.now) frame
+        ensures ok { IfOk result (λ turn. Turns (table self.now) (message self.now) frame
             (at_of state.old) (at_of state.new) (state.new.steps - state.old.steps) turn) }
         ensures rises { OnOk result (state.old.steps < state.new.steps) }
         ensures cost { state.new.steps ≤ state.old.steps + turn_work (came self.now) state.old.next
             frame }
-        ensures fault_is_true { IfErr result (BreaksFrame self.now.table.now (message self.now)
+        ensures fault_is_true { IfErr result (BreaksFrame (table self.now) (message self.now)
             frame (at_of state.old)) }
     {
         if count > FEW_STRUCTS && self.check_columns(frame, entry, size, count, state)? {
@@ -233,24 +232,25 @@ impl<'t, 'm, 's> Decoder<'t, 'm, 's> {
         state: &mut State<'_, '_>,
     ) -> Result<Turn, DecodeFault>
         requires left { frame.left ≡ left.Elements entry size count }
-        requires frame { FrameFine self.now.table.now (came self.now) frame }
+        requires frame { FrameFine (table self.now) (came self.now) frame }
         requires holds { Holds self.now state.old }
         requires state { StateFine (message self.now) (at_of state.old) }
         requires ready { CanReadFrame self.now state.old frame }
-        requires budget { state.old.steps + turn_work (came self.now) state.old.next frame < 2 ^ 40 }
+        requires budget { state.old.steps + turn_work (came self.now) state.old.next frame < 2 ^ 40
+            }
         ensures holds { Holds self.now state.new }
-        ensures ok { IfOk result (λ turn. Turns self.now.table.now (message self.now) frame
+        ensures ok { IfOk result (λ turn. Turns (table self.now) (message self.now) frame
             (at_of state.old) (at_of state.new) (state.new.steps - state.old.steps) turn) }
         ensures rises { OnOk result (state.old.steps < state.new.steps) }
         ensures cost { state.new.steps ≤ state.old.steps + turn_work (came self.now) state.old.next
             frame }
-        ensures fault_is_true { IfErr result (BreaksFrame self.now.table.now (message self.now)
+        ensures fault_is_true { IfErr result (BreaksFrame (table self.now) (message self.now)
             frame (at_of state.old)) }
     {
         if count == 0 {
             return self.read_items::<false>(frame, entry, size, count, state);
         }
-        let e = self.entry(entry);
+        let e = self.decoder.entry(entry);
         match EntryKind::from_number(e.kind) {
             Some(EntryKind::Struct) => self.take_structs(frame, entry, size, count, state),
             Some(EntryKind::Table) => { self.read_items::<true>(frame, entry, size, count, state) }
@@ -265,18 +265,19 @@ impl<'t, 'm, 's> Decoder<'t, 'm, 's> {
         frame: Frame,
         state: &mut State<'_, '_>,
     ) -> Result<Turn, DecodeFault>
-        requires frame { FrameFine self.now.table.now (came self.now) frame }
+        requires frame { FrameFine (table self.now) (came self.now) frame }
         requires holds { Holds self.now state.old }
         requires state { StateFine (message self.now) (at_of state.old) }
         requires ready { CanReadFrame self.now state.old frame }
-        requires budget { state.old.steps + turn_work (came self.now) state.old.next frame < 2 ^ 40 }
+        requires budget { state.old.steps + turn_work (came self.now) state.old.next frame < 2 ^ 40
+            }
         ensures holds { Holds self.now state.new }
-        ensures ok { IfOk result (λ turn. Turns self.now.table.now (message self.now) frame
+        ensures ok { IfOk result (λ turn. Turns (table self.now) (message self.now) frame
             (at_of state.old) (at_of state.new) (state.new.steps - state.old.steps) turn) }
         ensures rises { OnOk result (state.old.steps < state.new.steps) }
         ensures cost { state.new.steps ≤ state.old.steps + turn_work (came self.now) state.old.next
             frame }
-        ensures fault_is_true { IfErr result (BreaksFrame self.now.table.now (message self.now)
+        ensures fault_is_true { IfErr result (BreaksFrame (table self.now) (message self.now)
             frame (at_of state.old)) }
     {
         let mut rest = frame;

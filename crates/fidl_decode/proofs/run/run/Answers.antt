@@ -1,4 +1,4 @@
-use Rattle.fidl_decode.specs.Reading.{message}
+use Rattle.fidl_decode_values.specs.Reading.{message}
 use Rattle.std.proofs.Common.{rules, ◌-◌, refl, false, true, ◌≡◌, ◌+◌, ◌++◌, ◌<◌, List, length, sym, ap, ◌∙◌, subst, arith}
 use Rattle.std.specs.Option.{option_to_list}
 use Rattle.fidl_decode_model.specs.declared.frame.Frame.{Frame}
@@ -7,7 +7,7 @@ use Rattle.fidl_decode_model.specs.Machine.{at_of, BreaksFrame, BreaksStack, IsS
 use Rattle.fidl_decode_model.specs.Worth.{FinishesWorth}
 use Rattle.fidl_decode.proofs.Running.{finishes_raised, worth_all, turn_worth, read_all, stack_work_top, fine_top, room_if, length_if, turn_same, turn_fine, turn_less, top_breaks, turn_breaks}
 use Rattle.fidl_decode.proofs.Refusing.{broken_stopped}
-use Rattle.fidl_decode.specs.Ready.{StackReady}
+use Rattle.fidl_decode_values.specs.Ready.{StackReady}
 use Rattle.fidl_decode.proofs.ReadyStack.{top_ready, turn_ready}
 use Rattle.fidl_decode.proofs.run.run.Goals as goal
 
@@ -16,40 +16,40 @@ no_false e = cc
 
 pub take_turn-requires-clause-frame : goal.take_turn-requires-clause-frame
 take_turn-requires-clause-frame c =
-    let top = fine_top c.args.decoder.now.table.now (message c.args.decoder.now) 0 c.pop.new.self.items c.in-Some.frame (subst (λ (l : List Frame). StackFine c.args.decoder.now.table.now c.args.decoder.now.bytes.value.came 0 l) c.in-Some.ensures.items c.loop-frame.invariant.fine) in
+    let top = fine_top c.args.frames.now.decoder.table.now (message c.args.frames.now.decoder) 0 c.pop.new.self.items c.in-Some.frame (subst (λ (l : List Frame). StackFine c.args.frames.now.decoder.table.now c.args.frames.now.decoder.bytes.value.came 0 l) c.in-Some.ensures.items c.loop-frame.invariant.fine) in
     top.1
 
 pub take_turn-requires-clause-ready : goal.take_turn-requires-clause-ready
 take_turn-requires-clause-ready c =
-    let ready = subst (λ (l : List Frame). StackReady c.args.decoder.now.table.now (message c.args.decoder.now) (at_of c.loop-frame.state) l) c.in-Some.ensures.items c.loop-frame.invariant.ready in
-    (ready.0, top_ready c.args.decoder.now.table.now (message c.args.decoder.now) c.pop.new.self.items c.in-Some.frame (at_of c.loop-frame.state) ready)
+    let ready = subst (λ (l : List Frame). StackReady c.args.frames.now.decoder.table.now (message c.args.frames.now.decoder) (at_of c.loop-frame.state) l) c.in-Some.ensures.items c.loop-frame.invariant.ready in
+    (ready.0, top_ready c.args.frames.now.decoder.table.now (message c.args.frames.now.decoder) c.pop.new.self.items c.in-Some.frame (at_of c.loop-frame.state) ready)
 
 pub push_if-requires : goal.push_if-requires
 push_if-requires c =
-    let top = fine_top c.args.decoder.now.table.now (message c.args.decoder.now) 0 c.pop.new.self.items c.in-Some.frame (subst (λ (l : List Frame). StackFine c.args.decoder.now.table.now c.args.decoder.now.bytes.value.came 0 l) c.in-Some.ensures.items c.loop-frame.invariant.fine) in
-    room_if c.args.decoder.now.table.now (message c.args.decoder.now) (height c.in-Some.frame) (length c.pop.new.self.items) c.in_ok-turn.turn.rest c.in_ok-turn.ensures.ok.rest_fine (omega (arith, top.2))
+    let top = fine_top c.args.frames.now.decoder.table.now (message c.args.frames.now.decoder) 0 c.pop.new.self.items c.in-Some.frame (subst (λ (l : List Frame). StackFine c.args.frames.now.decoder.table.now c.args.frames.now.decoder.bytes.value.came 0 l) c.in-Some.ensures.items c.loop-frame.invariant.fine) in
+    room_if c.args.frames.now.decoder.table.now (message c.args.frames.now.decoder) (height c.in-Some.frame) (length c.pop.new.self.items) c.in_ok-turn.turn.rest c.in_ok-turn.ensures.ok.rest_fine (omega (arith, top.2))
 
 pub push_if-requires-in-Some : goal.push_if-requires-in-Some
 push_if-requires-in-Some c =
-    let top = fine_top c.args.decoder.now.table.now (message c.args.decoder.now) 0 c.pop.new.self.items c.in-Some.frame (subst (λ (l : List Frame). StackFine c.args.decoder.now.table.now c.args.decoder.now.bytes.value.came 0 l) c.in-Some.ensures.items c.loop-frame.invariant.fine) in
+    let top = fine_top c.args.frames.now.decoder.table.now (message c.args.frames.now.decoder) 0 c.pop.new.self.items c.in-Some.frame (subst (λ (l : List Frame). StackFine c.args.frames.now.decoder.table.now c.args.frames.now.decoder.bytes.value.came 0 l) c.in-Some.ensures.items c.loop-frame.invariant.fine) in
     let one = ap length c.push_if.ensures in
-    room_if c.args.decoder.now.table.now (message c.args.decoder.now) (height c.in-Some.frame + 1) (length c.push_if.new.stack.items)
+    room_if c.args.frames.now.decoder.table.now (message c.args.frames.now.decoder) (height c.in-Some.frame + 1) (length c.push_if.new.stack.items)
     c.in_ok-turn.turn.below c.in_ok-turn.ensures.ok.below_fine (omega (
       arith,
       top.2,
       one,
-      length_if c.args.decoder.now.table.now
-          (message c.args.decoder.now) c.pop.new.self.items c.in_ok-turn.turn.rest,
+      length_if c.args.frames.now.decoder.table.now
+          (message c.args.frames.now.decoder) c.pop.new.self.items c.in_ok-turn.turn.rest,
     ))
 
 pub loop-frame-smaller : goal.loop-frame-smaller
 loop-frame-smaller c =
     let popped = c.in-Some.ensures.items in
     let after : c.push_if-in-Some.new.stack.items ≡ (c.pop.new.self.items ++ option_to_list c.in_ok-turn.turn.rest) ++ option_to_list c.in_ok-turn.turn.below = c.push_if-in-Some.ensures ∙ ap (λ (l : List Frame). l ++ option_to_list c.in_ok-turn.turn.below) c.push_if.ensures in
-    let less = turn_less c.args.decoder.now.table.now (message c.args.decoder.now) c.pop.new.self.items c.in-Some.frame (at_of c.loop-frame.state) _ _ c.in_ok-turn.turn c.in_ok-turn.ensures.ok in
-    let new = ap (λ (l : List Frame). work c.args.decoder.now.bytes.value.came l c.take_turn.new.state.next) after in
-    let old = ap (λ (l : List Frame). work c.args.decoder.now.bytes.value.came l c.loop-frame.state.next) popped in
-    let fewer : work c.args.decoder.now.bytes.value.came c.push_if-in-Some.new.stack.items c.take_turn.new.state.next < work c.args.decoder.now.bytes.value.came c.loop-frame.stack.items c.loop-frame.state.next = omega (arith, c.in_ok-turn.ensures.rises) in
+    let less = turn_less c.args.frames.now.decoder.table.now (message c.args.frames.now.decoder) c.pop.new.self.items c.in-Some.frame (at_of c.loop-frame.state) _ _ c.in_ok-turn.turn c.in_ok-turn.ensures.ok in
+    let new = ap (λ (l : List Frame). work c.args.frames.now.decoder.bytes.value.came l c.take_turn.new.state.next) after in
+    let old = ap (λ (l : List Frame). work c.args.frames.now.decoder.bytes.value.came l c.loop-frame.state.next) popped in
+    let fewer : work c.args.frames.now.decoder.bytes.value.came c.push_if-in-Some.new.stack.items c.take_turn.new.state.next < work c.args.frames.now.decoder.bytes.value.came c.loop-frame.stack.items c.loop-frame.state.next = omega (arith, c.in_ok-turn.ensures.rises) in
     fewer
 
 pub loop-frame-init : goal.loop-frame-init
@@ -58,7 +58,7 @@ loop-frame-init c = record {
   same = λ to. ((λ h. h), (λ h. h));
   breaks = λ fault b. b;
   grows = omega arith;
-  least = λ to w h. finishes_raised c.args.decoder.now.table.now (message c.args.decoder.now) c.args.stack.now.items (at_of c.args.state.now) to w _ (omega arith) h;
+  least = λ to w h. finishes_raised c.args.frames.now.decoder.table.now (message c.args.frames.now.decoder) c.args.stack.now.items (at_of c.args.state.now) to w _ (omega arith) h;
   fine = c.requires.stack;
   steps = omega arith;
   state = c.requires.state;
@@ -73,77 +73,77 @@ loop-frame-preserved c =
     record {
       holds = c.take_turn.ensures.holds;
       same = λ to. (
-        (λ h. subst (λ (l : List Frame). Finishes c.args.decoder.now.table.now (message c.args.decoder.now) l (at_of c.take_turn.new.state) to)
-            (sym after) ((turn_same c.args.decoder.now.table.now (message c.args.decoder.now) c.pop.new.self.items c.in-Some.frame
+        (λ h. subst (λ (l : List Frame). Finishes c.args.frames.now.decoder.table.now (message c.args.frames.now.decoder) l (at_of c.take_turn.new.state) to)
+            (sym after) ((turn_same c.args.frames.now.decoder.table.now (message c.args.frames.now.decoder) c.pop.new.self.items c.in-Some.frame
             (at_of c.loop-frame.state) _ _ c.in_ok-turn.turn c.in_ok-turn.ensures.ok to).0
-            (subst (λ (l : List Frame). Finishes c.args.decoder.now.table.now (message c.args.decoder.now) l (at_of c.loop-frame.state) to) popped
+            (subst (λ (l : List Frame). Finishes c.args.frames.now.decoder.table.now (message c.args.frames.now.decoder) l (at_of c.loop-frame.state) to) popped
             ((before to).0 h)))),
-        (λ h. (before to).1 (subst (λ (l : List Frame). Finishes c.args.decoder.now.table.now (message c.args.decoder.now) l
-            (at_of c.loop-frame.state) to) (sym popped) ((turn_same c.args.decoder.now.table.now (message c.args.decoder.now) c.pop.new.self.items
+        (λ h. (before to).1 (subst (λ (l : List Frame). Finishes c.args.frames.now.decoder.table.now (message c.args.frames.now.decoder) l
+            (at_of c.loop-frame.state) to) (sym popped) ((turn_same c.args.frames.now.decoder.table.now (message c.args.frames.now.decoder) c.pop.new.self.items
             c.in-Some.frame (at_of c.loop-frame.state) _ _ c.in_ok-turn.turn c.in_ok-turn.ensures.ok to).1
-            (subst (λ (l : List Frame). Finishes c.args.decoder.now.table.now (message c.args.decoder.now) l (at_of c.take_turn.new.state) to) after
+            (subst (λ (l : List Frame). Finishes c.args.frames.now.decoder.table.now (message c.args.frames.now.decoder) l (at_of c.take_turn.new.state) to) after
             h)))),
       );
-      breaks = λ fault b. c.loop-frame.invariant.breaks fault (subst (λ (l : List Frame). BreaksStack c.args.decoder.now.table.now (message c.args.decoder.now) l (at_of c.loop-frame.state) fault) (sym popped)
-          (turn_breaks c.args.decoder.now.table.now (message c.args.decoder.now) c.pop.new.self.items c.in-Some.frame (at_of c.loop-frame.state) _ _
-          c.in_ok-turn.turn c.in_ok-turn.ensures.ok fault (subst (λ (l : List Frame). BreaksStack c.args.decoder.now.table.now
-          (message c.args.decoder.now) l (at_of c.take_turn.new.state) fault) after b)));
+      breaks = λ fault b. c.loop-frame.invariant.breaks fault (subst (λ (l : List Frame). BreaksStack c.args.frames.now.decoder.table.now (message c.args.frames.now.decoder) l (at_of c.loop-frame.state) fault) (sym popped)
+          (turn_breaks c.args.frames.now.decoder.table.now (message c.args.frames.now.decoder) c.pop.new.self.items c.in-Some.frame (at_of c.loop-frame.state) _ _
+          c.in_ok-turn.turn c.in_ok-turn.ensures.ok fault (subst (λ (l : List Frame). BreaksStack c.args.frames.now.decoder.table.now
+          (message c.args.frames.now.decoder) l (at_of c.take_turn.new.state) fault) after b)));
       grows = omega (arith, c.loop-frame.invariant.grows, c.in_ok-turn.ensures.rises);
       least = λ to w h.
           let spent = c.take_turn.new.state.steps - c.loop-frame.state.steps in
-          let now = subst (λ (l : List Frame). FinishesWorth c.args.decoder.now.table.now (message c.args.decoder.now) l (at_of c.take_turn.new.state) to w) after h in
-          let one = turn_worth c.args.decoder.now.table.now (message c.args.decoder.now) c.pop.new.self.items c.in-Some.frame (at_of c.loop-frame.state) (at_of c.take_turn.new.state) spent c.in_ok-turn.turn c.in_ok-turn.ensures.ok to w now in
-          let all = c.loop-frame.invariant.least to (w + spent) (subst (λ (l : List Frame). FinishesWorth c.args.decoder.now.table.now (message c.args.decoder.now) l (at_of c.loop-frame.state) to (w + spent)) (sym popped) one) in
-          finishes_raised c.args.decoder.now.table.now (message c.args.decoder.now) c.args.stack.now.items (at_of c.args.state.now) to _ _ (omega (arith, c.loop-frame.invariant.grows, c.in_ok-turn.ensures.rises)) all;
-      fine = subst (λ (l : List Frame). StackFine c.args.decoder.now.table.now c.args.decoder.now.bytes.value.came 0 l) (sym after)
-          (turn_fine c.args.decoder.now.table.now (message c.args.decoder.now) c.pop.new.self.items c.in-Some.frame (at_of c.loop-frame.state) _ _
-          c.in_ok-turn.turn c.in_ok-turn.ensures.ok (subst (λ (l : List Frame). StackFine c.args.decoder.now.table.now
-          c.args.decoder.now.bytes.value.came 0 l) popped c.loop-frame.invariant.fine));
-      steps = (let less = turn_less c.args.decoder.now.table.now (message c.args.decoder.now) c.pop.new.self.items c.in-Some.frame (at_of c.loop-frame.state) _ _ c.in_ok-turn.turn c.in_ok-turn.ensures.ok in
-          let new = ap (λ (l : List Frame). work c.args.decoder.now.bytes.value.came l c.take_turn.new.state.next) after in
-          let old = ap (λ (l : List Frame). work c.args.decoder.now.bytes.value.came l c.loop-frame.state.next) popped in
+          let now = subst (λ (l : List Frame). FinishesWorth c.args.frames.now.decoder.table.now (message c.args.frames.now.decoder) l (at_of c.take_turn.new.state) to w) after h in
+          let one = turn_worth c.args.frames.now.decoder.table.now (message c.args.frames.now.decoder) c.pop.new.self.items c.in-Some.frame (at_of c.loop-frame.state) (at_of c.take_turn.new.state) spent c.in_ok-turn.turn c.in_ok-turn.ensures.ok to w now in
+          let all = c.loop-frame.invariant.least to (w + spent) (subst (λ (l : List Frame). FinishesWorth c.args.frames.now.decoder.table.now (message c.args.frames.now.decoder) l (at_of c.loop-frame.state) to (w + spent)) (sym popped) one) in
+          finishes_raised c.args.frames.now.decoder.table.now (message c.args.frames.now.decoder) c.args.stack.now.items (at_of c.args.state.now) to _ _ (omega (arith, c.loop-frame.invariant.grows, c.in_ok-turn.ensures.rises)) all;
+      fine = subst (λ (l : List Frame). StackFine c.args.frames.now.decoder.table.now c.args.frames.now.decoder.bytes.value.came 0 l) (sym after)
+          (turn_fine c.args.frames.now.decoder.table.now (message c.args.frames.now.decoder) c.pop.new.self.items c.in-Some.frame (at_of c.loop-frame.state) _ _
+          c.in_ok-turn.turn c.in_ok-turn.ensures.ok (subst (λ (l : List Frame). StackFine c.args.frames.now.decoder.table.now
+          c.args.frames.now.decoder.bytes.value.came 0 l) popped c.loop-frame.invariant.fine));
+      steps = (let less = turn_less c.args.frames.now.decoder.table.now (message c.args.frames.now.decoder) c.pop.new.self.items c.in-Some.frame (at_of c.loop-frame.state) _ _ c.in_ok-turn.turn c.in_ok-turn.ensures.ok in
+          let new = ap (λ (l : List Frame). work c.args.frames.now.decoder.bytes.value.came l c.take_turn.new.state.next) after in
+          let old = ap (λ (l : List Frame). work c.args.frames.now.decoder.bytes.value.came l c.loop-frame.state.next) popped in
           let so_far = c.loop-frame.invariant.steps in
           omega (arith, c.in_ok-turn.ensures.rises));
       state = c.in_ok-turn.ensures.ok.state;
-      ready = subst (λ (l : List Frame). StackReady c.args.decoder.now.table.now (message c.args.decoder.now) (at_of c.take_turn.new.state) l) (sym after)
-          (turn_ready c.args.decoder.now.table.now (message c.args.decoder.now) c.pop.new.self.items c.in-Some.frame (at_of c.loop-frame.state) (at_of c.take_turn.new.state) _ c.in_ok-turn.turn c.in_ok-turn.ensures.ok
-          (subst (λ (l : List Frame). StackReady c.args.decoder.now.table.now (message c.args.decoder.now) (at_of c.loop-frame.state) l) popped c.loop-frame.invariant.ready));
+      ready = subst (λ (l : List Frame). StackReady c.args.frames.now.decoder.table.now (message c.args.frames.now.decoder) (at_of c.take_turn.new.state) l) (sym after)
+          (turn_ready c.args.frames.now.decoder.table.now (message c.args.frames.now.decoder) c.pop.new.self.items c.in-Some.frame (at_of c.loop-frame.state) (at_of c.take_turn.new.state) _ c.in_ok-turn.turn c.in_ok-turn.ensures.ok
+          (subst (λ (l : List Frame). StackReady c.args.frames.now.decoder.table.now (message c.args.frames.now.decoder) (at_of c.loop-frame.state) l) popped c.loop-frame.invariant.ready));
     }
 
 pub returns-in_err-turn-clause-cost : goal.returns-in_err-turn-clause-cost
 returns-in_err-turn-clause-cost c =
-    let old = ap (λ (l : List Frame). work c.args.decoder.now.bytes.value.came l c.loop-frame.state.next) c.in-Some.ensures.items in
+    let old = ap (λ (l : List Frame). work c.args.frames.now.decoder.bytes.value.came l c.loop-frame.state.next) c.in-Some.ensures.items in
     let so_far = c.loop-frame.invariant.steps in
-    omega (arith, c.take_turn.ensures.cost, stack_work_top c.args.decoder.now.table.now (message c.args.decoder.now) c.pop.new.self.items c.in-Some.frame)
+    omega (arith, c.take_turn.ensures.cost, stack_work_top c.args.frames.now.decoder.table.now (message c.args.frames.now.decoder) c.pop.new.self.items c.in-Some.frame)
 
 pub returns-in_err-turn-clause-fault_is_true : goal.returns-in_err-turn-clause-fault_is_true
 returns-in_err-turn-clause-fault_is_true c =
-    let broken : (fault : DecodeFault) → BreaksFrame c.args.decoder.now.table.now (message c.args.decoder.now) c.in-Some.frame (at_of c.loop-frame.state) fault → IsStopped c.args.decoder.now.table.now (message c.args.decoder.now) c.args.stack.now.items (at_of c.args.state.now) fault = λ fault b.
-    broken_stopped c.args.decoder.now.table.now (message c.args.decoder.now) c.args.stack.now.items (at_of c.args.state.now) fault
-    (c.loop-frame.invariant.breaks fault (subst (λ (l : List Frame). BreaksStack c.args.decoder.now.table.now (message c.args.decoder.now) l (at_of c.loop-frame.state) fault) (sym c.in-Some.ensures.items)
-    (top_breaks c.args.decoder.now.table.now (message c.args.decoder.now) c.pop.new.self.items c.in-Some.frame (at_of c.loop-frame.state) fault b))) in
+    let broken : (fault : DecodeFault) → BreaksFrame c.args.frames.now.decoder.table.now (message c.args.frames.now.decoder) c.in-Some.frame (at_of c.loop-frame.state) fault → IsStopped c.args.frames.now.decoder.table.now (message c.args.frames.now.decoder) c.args.stack.now.items (at_of c.args.state.now) fault = λ fault b.
+    broken_stopped c.args.frames.now.decoder.table.now (message c.args.frames.now.decoder) c.args.stack.now.items (at_of c.args.state.now) fault
+    (c.loop-frame.invariant.breaks fault (subst (λ (l : List Frame). BreaksStack c.args.frames.now.decoder.table.now (message c.args.frames.now.decoder) l (at_of c.loop-frame.state) fault) (sym c.in-Some.ensures.items)
+    (top_breaks c.args.frames.now.decoder.table.now (message c.args.frames.now.decoder) c.pop.new.self.items c.in-Some.frame (at_of c.loop-frame.state) fault b))) in
     let h = broken _ c.in_err-turn.ensures.fault_is_true in search (rules, h)
 
-pub returns-then-state-decoder-clause-fault_is_true : goal.returns-then-state-decoder-clause-fault_is_true
-returns-then-state-decoder-clause-fault_is_true c =
-    let all = read_all c.args.decoder.now.table.now (message c.args.decoder.now) c.loop-frame.stack.items (at_of c.loop-frame.state) (λ lt. no_false (c.in_default.ensures.variant.1 lt)) in
+pub returns-then-state-frames-clause-fault_is_true : goal.returns-then-state-frames-clause-fault_is_true
+returns-then-state-frames-clause-fault_is_true c =
+    let all = read_all c.args.frames.now.decoder.table.now (message c.args.frames.now.decoder) c.loop-frame.stack.items (at_of c.loop-frame.state) (λ lt. no_false (c.in_default.ensures.variant.1 lt)) in
     let state = c.loop-frame.invariant.state in
     let next = state.next in
-    (omega (arith, next, c.if-state-decoder.true), (at_of c.loop-frame.state, (c.loop-frame.invariant.same (at_of c.loop-frame.state)).1 all, state, refl))
+    (omega (arith, next, c.if-state-frames.true), (at_of c.loop-frame.state, (c.loop-frame.invariant.same (at_of c.loop-frame.state)).1 all, state, refl))
 
-pub returns-then-state-decoder-2-clause-fault_is_true : goal.returns-then-state-decoder-2-clause-fault_is_true
-returns-then-state-decoder-2-clause-fault_is_true c =
-    let all = read_all c.args.decoder.now.table.now (message c.args.decoder.now) c.loop-frame.stack.items (at_of c.loop-frame.state) (λ lt. no_false (c.in_default.ensures.variant.1 lt)) in
+pub returns-then-state-frames-2-clause-fault_is_true : goal.returns-then-state-frames-2-clause-fault_is_true
+returns-then-state-frames-2-clause-fault_is_true c =
+    let all = read_all c.args.frames.now.decoder.table.now (message c.args.frames.now.decoder) c.loop-frame.stack.items (at_of c.loop-frame.state) (λ lt. no_false (c.in_default.ensures.variant.1 lt)) in
     let handle = c.loop-frame.invariant.state.handle in
-    (c.args.decoder.now.sized, (at_of c.loop-frame.state, (c.loop-frame.invariant.same (at_of c.loop-frame.state)).1 all, c.if-state-decoder.false ∙ c.args.decoder.now.sized, omega (arith, handle, c.if-state-decoder-2.true)))
+    (c.args.frames.now.decoder.sized, (at_of c.loop-frame.state, (c.loop-frame.invariant.same (at_of c.loop-frame.state)).1 all, c.if-state-frames.false ∙ c.args.frames.now.decoder.sized, omega (arith, handle, c.if-state-frames-2.true)))
 
 pub take_turn-requires-clause-budget : goal.take_turn-requires-clause-budget
 take_turn-requires-clause-budget c =
-    let old = ap (λ (l : List Frame). work c.args.decoder.now.bytes.value.came l c.loop-frame.state.next) c.in-Some.ensures.items in
+    let old = ap (λ (l : List Frame). work c.args.frames.now.decoder.bytes.value.came l c.loop-frame.state.next) c.in-Some.ensures.items in
     let so_far = c.loop-frame.invariant.steps in
-    omega (arith, old, so_far, c.requires.budget, stack_work_top c.args.decoder.now.table.now (message c.args.decoder.now) c.pop.new.self.items c.in-Some.frame)
+    omega (arith, old, so_far, c.requires.budget, stack_work_top c.args.frames.now.decoder.table.now (message c.args.frames.now.decoder) c.pop.new.self.items c.in-Some.frame)
 
 pub returns-clause-least : goal.returns-clause-least
 returns-clause-least c =
-    finishes_raised c.args.decoder.now.table.now (message c.args.decoder.now) c.args.stack.now.items (at_of c.args.state.now) (at_of c.loop-frame.state) _ _ (omega arith)
-    (c.loop-frame.invariant.least (at_of c.loop-frame.state) 0 (worth_all c.args.decoder.now.table.now (message c.args.decoder.now) c.loop-frame.stack.items (at_of c.loop-frame.state) 0 (λ lt. no_false (c.in_default.ensures.variant.1 lt))))
+    finishes_raised c.args.frames.now.decoder.table.now (message c.args.frames.now.decoder) c.args.stack.now.items (at_of c.args.state.now) (at_of c.loop-frame.state) _ _ (omega arith)
+    (c.loop-frame.invariant.least (at_of c.loop-frame.state) 0 (worth_all c.args.frames.now.decoder.table.now (message c.args.frames.now.decoder) c.loop-frame.stack.items (at_of c.loop-frame.state) 0 (λ lt. no_false (c.in_default.ensures.variant.1 lt))))

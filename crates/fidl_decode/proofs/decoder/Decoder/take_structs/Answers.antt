@@ -1,4 +1,0 @@
-use Rattle.fidl_decode.proofs.decoder.Decoder.take_structs.Goals as goal
-
-pub returns-then-branch-clause-ok : goal.returns-then-branch-clause-ok
-returns-then-branch-clause-ok c = c.in_ok-check_columns.ensures.ok c.if-branch.true

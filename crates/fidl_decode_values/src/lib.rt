@@ -1,0 +1,26 @@
+//! What the decoder reads at one place of a message: numbers, texts, handles, markers, envelopes,
+//! and what it passes over.
+#![tactic(auto)]
+
+mod body;
+mod boxes;
+mod decoder;
+mod envelopes;
+mod flat;
+mod handles;
+mod leaf;
+mod markers;
+mod passing;
+mod passing_structs;
+mod passing_texts;
+mod plain;
+mod reading;
+mod tables;
+mod texts;
+mod unions;
+mod vectors;
+mod visit;
+pub mod worked;
+
+pub use decoder::Decoder;
+pub use plain::{Plain, rows_from};
