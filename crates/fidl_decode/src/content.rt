@@ -101,8 +101,7 @@ impl<'t, 'm, 's> Frames<'t, 'm, 's> {
         requires holds { Holds self.now state.old }
         requires state { StateFine (message self.now) (at_of state.old) }
         requires ready { CanReadFrame self.now state.old frame }
-        requires budget { state.old.steps + turn_work (came self.now) state.old.next frame < 2 ^ 40
-            }
+        requires budget { state.old.steps + turn_work (came self.now) state.old.next frame < 2 ^ 40 }
         ensures holds { Holds self.now state.new }
         ensures ok { OnOk result
             (Turns (table self.now) (message self.now) frame
@@ -147,8 +146,7 @@ impl<'t, 'm, 's> Frames<'t, 'm, 's> {
         requires holds { Holds self.now state.old }
         requires state { StateFine (message self.now) (at_of state.old) }
         requires ready { CanReadFrame self.now state.old frame }
-        requires budget { state.old.steps + turn_work (came self.now) state.old.next frame < 2 ^ 40
-            }
+        requires budget { state.old.steps + turn_work (came self.now) state.old.next frame < 2 ^ 40 }
         ensures holds { Holds self.now state.new }
         ensures ok { IfOk result
             (λ rest. Turns (table self.now) (message self.now)
@@ -186,8 +184,7 @@ impl<'t, 'm, 's> Frames<'t, 'm, 's> {
         requires holds { Holds self.now state.old }
         requires state { StateFine (message self.now) (at_of state.old) }
         requires ready { CanReadFrame self.now state.old frame }
-        requires budget { state.old.steps + turn_work (came self.now) state.old.next frame < 2 ^ 40
-            }
+        requires budget { state.old.steps + turn_work (came self.now) state.old.next frame < 2 ^ 40 }
         ensures holds { Holds self.now state.new }
         ensures ok { IfOk result (λ turn. Turns (table self.now) (message self.now) frame
             (at_of state.old) (at_of state.new) (state.new.steps - state.old.steps) turn) }

@@ -33,8 +33,7 @@ impl<'t, 'm, 's> Frames<'t, 'm, 's> {
         requires holds { Holds self.now state.old }
         requires state { StateFine (message self.now) (at_of state.old) }
         requires ready { CanReadFrame self.now state.old frame }
-        requires budget { state.old.steps + turn_work (came self.now) state.old.next frame < 2 ^ 40
-            }
+        requires budget { state.old.steps + turn_work (came self.now) state.old.next frame < 2 ^ 40 }
         ensures holds { Holds self.now state.new }
         ensures ok { IfOk result
             (λ rest. Turns (table self.now) (message self.now)
@@ -67,8 +66,7 @@ impl<'t, 'm, 's> Frames<'t, 'm, 's> {
     }
 
     /// Reads a struct in place, and what its last member leads to, up to the first member that is
-    /// no
-    /// leaf. Nothing is left at the end.
+    /// no leaf. Nothing is left at the end.
     pub(crate) fn read_struct(
         &self,
         frame: Frame,
@@ -81,8 +79,7 @@ impl<'t, 'm, 's> Frames<'t, 'm, 's> {
         requires holds { Holds self.now state.old }
         requires state { StateFine (message self.now) (at_of state.old) }
         requires ready { CanReadFrame self.now state.old frame }
-        requires budget { state.old.steps + turn_work (came self.now) state.old.next frame < 2 ^ 40
-            }
+        requires budget { state.old.steps + turn_work (came self.now) state.old.next frame < 2 ^ 40 }
         ensures holds { Holds self.now state.new }
         ensures ok { IfOk result
             (λ rest. Turns (table self.now) (message self.now)
@@ -133,8 +130,7 @@ impl<'t, 'm, 's> Frames<'t, 'm, 's> {
         requires holds { Holds self.now state.old }
         requires state { StateFine (message self.now) (at_of state.old) }
         requires ready { CanReadFrame self.now state.old frame }
-        requires budget { state.old.steps + turn_work (came self.now) state.old.next frame < 2 ^ 40
-            }
+        requires budget { state.old.steps + turn_work (came self.now) state.old.next frame < 2 ^ 40 }
         ensures holds { Holds self.now state.new }
         ensures ok { OnOk result
             (Turns (table self.now) (message self.now) frame
@@ -175,8 +171,7 @@ impl<'t, 'm, 's> Frames<'t, 'm, 's> {
         requires holds { Holds self.now state.old }
         requires state { StateFine (message self.now) (at_of state.old) }
         requires ready { CanReadFrame self.now state.old frame }
-        requires budget { state.old.steps + turn_work (came self.now) state.old.next frame < 2 ^ 40
-            }
+        requires budget { state.old.steps + turn_work (came self.now) state.old.next frame < 2 ^ 40 }
         ensures holds { Holds self.now state.new }
         ensures ok { IfOk result
             (λ rest. Turns (table self.now) (message self.now)
@@ -220,8 +215,7 @@ impl<'t, 'm, 's> Frames<'t, 'm, 's> {
         requires holds { Holds self.now state.old }
         requires state { StateFine (message self.now) (at_of state.old) }
         requires ready { CanReadFrame self.now state.old frame }
-        requires budget { state.old.steps + turn_work (came self.now) state.old.next frame < 2 ^ 40
-            }
+        requires budget { state.old.steps + turn_work (came self.now) state.old.next frame < 2 ^ 40 }
         ensures holds { Holds self.now state.new }
         ensures ok { IfOk result
             (λ rest. Turns (table self.now) (message self.now)

@@ -37,8 +37,7 @@ impl<'t, 'm, 's> Frames<'t, 'm, 's> {
         requires holds { Holds self.now state.old }
         requires state { StateFine (message self.now) (at_of state.old) }
         requires ready { CanReadFrame self.now state.old frame }
-        requires budget { state.old.steps + turn_work (came self.now) state.old.next frame < 2 ^ 40
-            }
+        requires budget { state.old.steps + turn_work (came self.now) state.old.next frame < 2 ^ 40 }
         ensures holds { Holds self.now state.new }
         ensures ok { OnOk result
             (Turns (table self.now) (message self.now) frame
@@ -61,7 +60,7 @@ impl<'t, 'm, 's> Frames<'t, 'm, 's> {
             let Some(kind) = EntryKind::from_number(e.kind) else {
                 unreachable!()
             };
-            self.read_row(rest, next, many, kind, state)?;
+            self.read_flat_row(rest, next, many, kind, state)?;
             done = row.key as usize + e.size as usize;
             next += 1;
             many -= 1;
@@ -84,8 +83,7 @@ impl<'t, 'm, 's> Frames<'t, 'm, 's> {
         requires holds { Holds self.now state.old }
         requires state { StateFine (message self.now) (at_of state.old) }
         requires ready { CanReadFrame self.now state.old frame }
-        requires budget { state.old.steps + turn_work (came self.now) state.old.next frame < 2 ^ 40
-            }
+        requires budget { state.old.steps + turn_work (came self.now) state.old.next frame < 2 ^ 40 }
         ensures holds { Holds self.now state.new }
         ensures ok { OnOk result
             (Turns (table self.now) (message self.now) frame

@@ -60,8 +60,7 @@ impl<'t, 'm, 's> Frames<'t, 'm, 's> {
     }
 
     /// Reads an element at a place, as `read_item` does. A loop over tables alone has no code for
-    /// other
-    /// values in it.
+    /// other values in it.
     #[inline(always)]
     fn read_element<const TABLES: bool>(
         &self,
@@ -118,8 +117,7 @@ impl<'t, 'm, 's> Frames<'t, 'm, 's> {
         requires holds { Holds self.now state.old }
         requires state { StateFine (message self.now) (at_of state.old) }
         requires ready { CanReadFrame self.now state.old frame }
-        requires budget { state.old.steps + turn_work (came self.now) state.old.next frame < 2 ^ 40
-            }
+        requires budget { state.old.steps + turn_work (came self.now) state.old.next frame < 2 ^ 40 }
         ensures holds { Holds self.now state.new }
         ensures ok { IfOk result (λ turn. Turns (table self.now) (message self.now) frame
             (at_of state.old) (at_of state.new) (state.new.steps - state.old.steps) turn) }

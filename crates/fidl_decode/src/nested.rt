@@ -4,7 +4,6 @@ ghost use Rattle.std.specs.Prelude.{IsTrue, Some, None};
 ghost use Rattle.fidl_table_format.specs.declared.kind.EntryKind.TheVariants as kinds;
 ghost use Rattle.fidl_table_format.specs.Kind.{kind_of};
 ghost use Rattle.fidl_table_format.specs.Section.{header_of, entry_at, row_at};
-ghost use Rattle.fidl_decode_model.specs.Invariants.{is_leaf};
 ghost use Rattle.fidl_decode_model.specs.declared.frame.Remaining.TheVariants as left;
 ghost use Rattle.fidl_decode_model.specs.Steps.{Spends};
 ghost use Rattle.fidl_decode_model.specs.Machine.{StateFine, FrameFine, BreaksFrame, Turns};
@@ -15,7 +14,9 @@ use crate::frames::Frames;
 use fidl_decode_model::DecodeFault;
 use fidl_decode_model::frame::{Frame, Remaining, State};
 use fidl_decode_values::{Plain, rows_from};
-use fidl_table_format::EntryKind;
+
+/// The number of the kind of boxes.
+const BOX: u8 = 15;
 
 impl<'t, 'm, 's> Frames<'t, 'm, 's> {
     /// Whether a row is the last of a struct of this size, and a box behind which nothing is left.
@@ -32,10 +33,7 @@ impl<'t, 'm, 's> Frames<'t, 'm, 's> {
         }
         let row = self.decoder.row(first);
         let e = self.decoder.entry(row.entry);
-        match EntryKind::from_number(e.kind) {
-            Some(EntryKind::Box) => row.key as usize + e.size as usize == size,
-            _ => false,
-        }
+        e.kind == BOX && row.key as usize + e.size as usize == size
     }
 
     /// Reads the box that is the last member of a struct, and behind which nothing is left: the
@@ -56,8 +54,7 @@ impl<'t, 'm, 's> Frames<'t, 'm, 's> {
         requires holds { Holds self.now state.old }
         requires state { StateFine (message self.now) (at_of state.old) }
         requires ready { CanReadFrame self.now state.old frame }
-        requires budget { state.old.steps + turn_work (came self.now) state.old.next frame < 2 ^ 40
-            }
+        requires budget { state.old.steps + turn_work (came self.now) state.old.next frame < 2 ^ 40 }
         ensures holds { Holds self.now state.new }
         ensures ok { IfOk result
             (λ rest. Turns (table self.now) (message self.now)
@@ -92,8 +89,7 @@ impl<'t, 'm, 's> Frames<'t, 'm, 's> {
         requires holds { Holds self.now state.old }
         requires state { StateFine (message self.now) (at_of state.old) }
         requires ready { CanReadFrame self.now state.old frame }
-        requires budget { state.old.steps + turn_work (came self.now) state.old.next frame < 2 ^ 40
-            }
+        requires budget { state.old.steps + turn_work (came self.now) state.old.next frame < 2 ^ 40 }
         ensures holds { Holds self.now state.new }
         ensures ok { IfOk result
             (λ rest. Turns (table self.now) (message self.now)
@@ -119,10 +115,7 @@ impl<'t, 'm, 's> Frames<'t, 'm, 's> {
             let rest = rows_from(holder, next, many, done);
             let row = self.decoder.row(next);
             let e = self.decoder.entry(row.entry);
-            let Some(kind) = EntryKind::from_number(e.kind) else {
-                unreachable!()
-            };
-            if self.decoder.is_leaf(row.entry, kind) {
+            if let Some(kind) = self.decoder.leaf_kind(row.entry) {
                 self.read_row(rest, next, many, kind, state)?;
                 done = row.key as usize + e.size as usize;
                 next += 1;
@@ -163,8 +156,7 @@ impl<'t, 'm, 's> Frames<'t, 'm, 's> {
         requires holds { Holds self.now state.old }
         requires state { StateFine (message self.now) (at_of state.old) }
         requires ready { CanReadFrame self.now state.old frame }
-        requires budget { state.old.steps + turn_work (came self.now) state.old.next frame < 2 ^ 40
-            }
+        requires budget { state.old.steps + turn_work (came self.now) state.old.next frame < 2 ^ 40 }
         ensures holds { Holds self.now state.new }
         ensures ok { IfOk result
             (λ rest. Turns (table self.now) (message self.now)

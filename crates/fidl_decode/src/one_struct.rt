@@ -15,8 +15,7 @@ use fidl_decode_values::Plain;
 
 impl<'t, 'm, 's> Frames<'t, 'm, 's> {
     /// Reads a struct as `read_struct` does, of which the first rows are known to take any bytes
-    /// but
-    /// for a bool.
+    /// but for a bool.
     #[inline(always)]
     pub(crate) fn read_behind(
         &self,
@@ -34,8 +33,7 @@ impl<'t, 'm, 's> Frames<'t, 'm, 's> {
         requires holds { Holds self.now state.old }
         requires state { StateFine (message self.now) (at_of state.old) }
         requires ready { CanReadFrame self.now state.old frame }
-        requires budget { state.old.steps + turn_work (came self.now) state.old.next frame < 2 ^ 40
-            }
+        requires budget { state.old.steps + turn_work (came self.now) state.old.next frame < 2 ^ 40 }
         ensures holds { Holds self.now state.new }
         ensures ok { IfOk result
             (λ rest. Turns (table self.now) (message self.now)
@@ -70,8 +68,7 @@ impl<'t, 'm, 's> Frames<'t, 'm, 's> {
         requires holds { Holds self.now state.old }
         requires state { StateFine (message self.now) (at_of state.old) }
         requires ready { CanReadFrame self.now state.old frame }
-        requires budget { state.old.steps + turn_work (came self.now) state.old.next frame < 2 ^ 40
-            }
+        requires budget { state.old.steps + turn_work (came self.now) state.old.next frame < 2 ^ 40 }
         ensures holds { Holds self.now state.new }
         ensures ok { OnOk result
             (Turns (table self.now) (message self.now) frame
@@ -91,8 +88,7 @@ impl<'t, 'm, 's> Frames<'t, 'm, 's> {
     }
 
     /// Reads a struct of a vector, as `read_behind` does. A loop over structs of leaves alone has
-    /// no code
-    /// for other structs in it, and nothing is left of one.
+    /// no code for other structs in it, and nothing is left of one.
     #[inline(always)]
     pub(crate) fn read_one<const FLAT: bool>(
         &self,
@@ -113,8 +109,7 @@ impl<'t, 'm, 's> Frames<'t, 'm, 's> {
         requires holds { Holds self.now state.old }
         requires state { StateFine (message self.now) (at_of state.old) }
         requires ready { CanReadFrame self.now state.old frame }
-        requires budget { state.old.steps + turn_work (came self.now) state.old.next frame < 2 ^ 40
-            }
+        requires budget { state.old.steps + turn_work (came self.now) state.old.next frame < 2 ^ 40 }
         ensures holds { Holds self.now state.new }
         ensures ok { IfOk result
             (λ rest. Turns (table self.now) (message self.now)

@@ -1,6 +1,7 @@
 //! The rows of a struct, one after the other.
 ghost use Rattle.std.specs.Prelude.{◌≡◌, ◌+◌, ◌-◌, ◌^◌, ◌<◌, OnOk, IfOk, IfErr, Some, None, true};
 ghost use Rattle.std.specs.Prelude.{[]};
+ghost use Rattle.fidl_table_format.specs.declared.kind.EntryKind.TheVariants as kinds;
 ghost use Rattle.fidl_table_format.specs.Kind.{kind_of};
 ghost use Rattle.fidl_table_format.specs.Section.{header_of, entry_at, row_at};
 ghost use Rattle.fidl_decode_model.specs.Invariants.{is_leaf};
@@ -38,8 +39,7 @@ impl<'t, 'm, 's> Frames<'t, 'm, 's> {
         requires holds { Holds self.now state.old }
         requires state { StateFine (message self.now) (at_of state.old) }
         requires ready { CanReadFrame self.now state.old frame }
-        requires budget { state.old.steps + turn_work (came self.now) state.old.next frame < 2 ^ 40
-            }
+        requires budget { state.old.steps + turn_work (came self.now) state.old.next frame < 2 ^ 40 }
         ensures holds { Holds self.now state.new }
         ensures ok { let row = row_at (table self.now) (header_of (table self.now)) first in
             let done = row.key + (entry_at (table self.now) row.entry).size in
@@ -64,6 +64,91 @@ impl<'t, 'm, 's> Frames<'t, 'm, 's> {
         Ok(())
     }
 
+    /// Reads the next row of a struct, which is a vector of numbers, and the zeros before it.
+    #[inline(always)]
+    pub(crate) fn read_vector_row(
+        &self,
+        frame: Frame,
+        first: u32,
+        count: u32,
+        state: &mut State<'_, '_>,
+    ) -> Result<(), DecodeFault>
+        requires frame { FrameFine (table self.now) (came self.now) frame }
+        requires left { frame.left ≡ left.Rows first count }
+        requires some { 0 < count }
+        requires kind { let row = row_at (table self.now) (header_of (table self.now)) first in
+            kind_of (entry_at (table self.now) row.entry).kind ≡ Some kinds.Vector }
+        requires leaf { let row = row_at (table self.now) (header_of (table self.now)) first in
+            is_leaf (table self.now) (entry_at (table self.now) row.entry) kinds.Vector ≡ true }
+        requires holds { Holds self.now state.old }
+        requires state { StateFine (message self.now) (at_of state.old) }
+        requires ready { CanReadFrame self.now state.old frame }
+        requires budget { state.old.steps + turn_work (came self.now) state.old.next frame < 2 ^ 40 }
+        ensures holds { Holds self.now state.new }
+        ensures ok { let row = row_at (table self.now) (header_of (table self.now)) first in
+            let done = row.key + (entry_at (table self.now) row.entry).size in
+            OnOk result (Turns (table self.now)
+            (message self.now) frame (at_of state.old)
+            (at_of state.new) (state.new.steps - state.old.steps) (record {
+              below = None;
+              rest = Some (behind_rows frame (first + 1) (count - 1) done);
+            })) }
+        ensures spends { Spends state.old.steps state.new.steps 1 (turn_work (came self.now)
+            state.old.next frame) }
+        ensures fault_is_true { IfErr result (BreaksFrame (table self.now) (message self.now)
+            frame (at_of state.old)) }
+    {
+        let row = self.decoder.row(first);
+        let front = frame.base as usize + frame.done as usize;
+        let place = frame.base as usize + row.key as usize;
+        state.steps += (place - front) as u64 + 1;
+        self.decoder.zeros_at(front, place, state)?;
+        self.decoder
+            .pass_numbers(row.entry, place, frame.depth, state)?;
+        Ok(())
+    }
+
+    /// Does what `read_row` does, a vector of numbers in line too.
+    #[inline(always)]
+    pub(crate) fn read_flat_row(
+        &self,
+        frame: Frame,
+        first: u32,
+        count: u32,
+        kind: EntryKind,
+        state: &mut State<'_, '_>,
+    ) -> Result<(), DecodeFault>
+        requires frame { FrameFine (table self.now) (came self.now) frame }
+        requires left { frame.left ≡ left.Rows first count }
+        requires some { 0 < count }
+        requires kind { let row = row_at (table self.now) (header_of (table self.now)) first in
+            kind_of (entry_at (table self.now) row.entry).kind ≡ Some kind }
+        requires leaf { let row = row_at (table self.now) (header_of (table self.now)) first in
+            is_leaf (table self.now) (entry_at (table self.now) row.entry) kind ≡ true }
+        requires holds { Holds self.now state.old }
+        requires state { StateFine (message self.now) (at_of state.old) }
+        requires ready { CanReadFrame self.now state.old frame }
+        requires budget { state.old.steps + turn_work (came self.now) state.old.next frame < 2 ^ 40 }
+        ensures holds { Holds self.now state.new }
+        ensures ok { let row = row_at (table self.now) (header_of (table self.now)) first in
+            let done = row.key + (entry_at (table self.now) row.entry).size in
+            OnOk result (Turns (table self.now)
+            (message self.now) frame (at_of state.old)
+            (at_of state.new) (state.new.steps - state.old.steps) (record {
+              below = None;
+              rest = Some (behind_rows frame (first + 1) (count - 1) done);
+            })) }
+        ensures spends { Spends state.old.steps state.new.steps 1 (turn_work (came self.now)
+            state.old.next frame) }
+        ensures fault_is_true { IfErr result (BreaksFrame (table self.now) (message self.now)
+            frame (at_of state.old)) }
+    {
+        match kind {
+            EntryKind::Vector => self.read_vector_row(frame, first, count, state),
+            _ => self.read_row(frame, first, count, kind, state),
+        }
+    }
+
     /// Reads the zeros behind the last row of a struct. Nothing is left then.
     #[inline(always)]
     pub(crate) fn end_rows(
@@ -77,8 +162,7 @@ impl<'t, 'm, 's> Frames<'t, 'm, 's> {
         requires holds { Holds self.now state.old }
         requires state { StateFine (message self.now) (at_of state.old) }
         requires ready { CanReadFrame self.now state.old frame }
-        requires budget { state.old.steps + turn_work (came self.now) state.old.next frame < 2 ^ 40
-            }
+        requires budget { state.old.steps + turn_work (came self.now) state.old.next frame < 2 ^ 40 }
         ensures holds { Holds self.now state.new }
         ensures ok { OnOk result
             (Turns (table self.now) (message self.now) frame
@@ -109,8 +193,7 @@ impl<'t, 'm, 's> Frames<'t, 'm, 's> {
         requires holds { Holds self.now state.old }
         requires state { StateFine (message self.now) (at_of state.old) }
         requires ready { CanReadFrame self.now state.old frame }
-        requires budget { state.old.steps + turn_work (came self.now) state.old.next frame < 2 ^ 40
-            }
+        requires budget { state.old.steps + turn_work (came self.now) state.old.next frame < 2 ^ 40 }
         ensures holds { Holds self.now state.new }
         ensures ok { IfOk result (λ turn. Turns (table self.now) (message self.now) frame
             (at_of state.old) (at_of state.new) (state.new.steps - state.old.steps) turn) }

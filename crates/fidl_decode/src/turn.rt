@@ -19,8 +19,7 @@ use fidl_decode_model::frame::{Frame, Remaining, State, Turn};
 use fidl_table_format::EntryKind;
 
 /// So many structs of numbers are read one after another, since to check them member by member
-/// costs
-/// more before the first of them.
+/// costs more before the first of them.
 const FEW_STRUCTS: u32 = 2;
 
 /// Whether all of a frame is read, up to its end: nothing is left behind what is below.
@@ -55,8 +54,7 @@ impl<'t, 'm, 's> Frames<'t, 'm, 's> {
         requires holds { Holds self.now state.old }
         requires state { StateFine (message self.now) (at_of state.old) }
         requires ready { CanReadFrame self.now state.old frame }
-        requires budget { state.old.steps + turn_work (came self.now) state.old.next frame < 2 ^ 40
-            }
+        requires budget { state.old.steps + turn_work (came self.now) state.old.next frame < 2 ^ 40 }
         ensures holds { Holds self.now state.new }
         ensures ok { IfOk result (λ turn. Turns (table self.now) (message self.now) frame
             (at_of state.old) (at_of state.new) (state.new.steps - state.old.steps) turn) }
@@ -116,9 +114,41 @@ impl<'t, 'm, 's> Frames<'t, 'm, 's> {
         })
     }
 
+    /// Reads structs of leaves of an array or vector in place, in a loop of their own. It stands out
+    /// of line, so that it takes no registers of the loop over other structs.
+    #[inline(never)]
+    fn read_flat_structs(
+        &self,
+        frame: Frame,
+        entry: u32,
+        size: usize,
+        count: u32,
+        state: &mut State<'_, '_>,
+    ) -> Result<Turn, DecodeFault>
+        requires left { frame.left ≡ left.Elements entry size count }
+        requires entry { entry < (header_of (table self.now)).entries }
+        requires kind { kind_of (entry_at (table self.now) entry).kind ≡ Some kinds.Struct }
+        requires leaves { let e = entry_at (table self.now) entry in
+            AreLeaves (table self.now) e.first e.count }
+        requires frame { FrameFine (table self.now) (came self.now) frame }
+        requires holds { Holds self.now state.old }
+        requires state { StateFine (message self.now) (at_of state.old) }
+        requires ready { CanReadFrame self.now state.old frame }
+        requires budget { state.old.steps + turn_work (came self.now) state.old.next frame < 2 ^ 40 }
+        ensures holds { Holds self.now state.new }
+        ensures ok { IfOk result (λ turn. Turns (table self.now) (message self.now) frame
+            (at_of state.old) (at_of state.new) (state.new.steps - state.old.steps) turn) }
+        ensures rises { OnOk result (state.old.steps < state.new.steps) }
+        ensures cost { state.new.steps ≤ state.old.steps + turn_work (came self.now) state.old.next
+            frame }
+        ensures fault_is_true { IfErr result (BreaksFrame (table self.now) (message self.now)
+            frame (at_of state.old)) }
+    {
+        self.read_structs::<true>(frame, entry, size, count, state)
+    }
+
     /// Checks the structs of an array or vector member by member, where no struct is read yet and
-    /// their
-    /// members are numbers alone. Else nothing is read.
+    /// their members are numbers alone. Else nothing is read.
     #[inline(never)]
     fn check_columns(
         &self,
@@ -136,8 +166,7 @@ impl<'t, 'm, 's> Frames<'t, 'm, 's> {
         requires holds { Holds self.now state.old }
         requires state { StateFine (message self.now) (at_of state.old) }
         requires ready { CanReadFrame self.now state.old frame }
-        requires budget { state.old.steps + turn_work (came self.now) state.old.next frame < 2 ^ 40
-            }
+        requires budget { state.old.steps + turn_work (came self.now) state.old.next frame < 2 ^ 40 }
         ensures holds { Holds self.now state.new }
         ensures ok { IfOk result (λ all. IsTrue all
             → Turns (table self.now) (message self.now) frame
@@ -179,8 +208,7 @@ impl<'t, 'm, 's> Frames<'t, 'm, 's> {
     }
 
     /// Reads structs of an array or vector in place: member by member where these are numbers
-    /// alone,
-    /// else up to a struct that holds more than leaves.
+    /// alone, else up to a struct that holds more than leaves.
     #[inline(always)]
     fn take_structs(
         &self,
@@ -198,8 +226,7 @@ impl<'t, 'm, 's> Frames<'t, 'm, 's> {
         requires holds { Holds self.now state.old }
         requires state { StateFine (message self.now) (at_of state.old) }
         requires ready { CanReadFrame self.now state.old frame }
-        requires budget { state.old.steps + turn_work (came self.now) state.old.next frame < 2 ^ 40
-            }
+        requires budget { state.old.steps + turn_work (came self.now) state.old.next frame < 2 ^ 40 }
         ensures holds { Holds self.now state.new }
         ensures ok { IfOk result (λ turn. Turns (table self.now) (message self.now) frame
             (at_of state.old) (at_of state.new) (state.new.steps - state.old.steps) turn) }
@@ -216,7 +243,7 @@ impl<'t, 'm, 's> Frames<'t, 'm, 's> {
             });
         }
         if self.are_structs_of_leaves(&frame, entry) {
-            return self.read_structs::<true>(frame, entry, size, count, state);
+            return self.read_flat_structs(frame, entry, size, count, state);
         }
         self.read_structs::<false>(frame, entry, size, count, state)
     }
@@ -236,8 +263,7 @@ impl<'t, 'm, 's> Frames<'t, 'm, 's> {
         requires holds { Holds self.now state.old }
         requires state { StateFine (message self.now) (at_of state.old) }
         requires ready { CanReadFrame self.now state.old frame }
-        requires budget { state.old.steps + turn_work (came self.now) state.old.next frame < 2 ^ 40
-            }
+        requires budget { state.old.steps + turn_work (came self.now) state.old.next frame < 2 ^ 40 }
         ensures holds { Holds self.now state.new }
         ensures ok { IfOk result (λ turn. Turns (table self.now) (message self.now) frame
             (at_of state.old) (at_of state.new) (state.new.steps - state.old.steps) turn) }
@@ -269,8 +295,7 @@ impl<'t, 'm, 's> Frames<'t, 'm, 's> {
         requires holds { Holds self.now state.old }
         requires state { StateFine (message self.now) (at_of state.old) }
         requires ready { CanReadFrame self.now state.old frame }
-        requires budget { state.old.steps + turn_work (came self.now) state.old.next frame < 2 ^ 40
-            }
+        requires budget { state.old.steps + turn_work (came self.now) state.old.next frame < 2 ^ 40 }
         ensures holds { Holds self.now state.new }
         ensures ok { IfOk result (λ turn. Turns (table self.now) (message self.now) frame
             (at_of state.old) (at_of state.new) (state.new.steps - state.old.steps) turn) }

@@ -15,4 +15,4 @@ mod zeros;
 
 pub use columns::Columns;
 pub use kinds::{MOST_ROWS, is_free};
-pub use zeros::zeros_at;
+pub use zeros::{padding_at, zeros_at};

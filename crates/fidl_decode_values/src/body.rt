@@ -92,8 +92,7 @@ impl<'t, 'm, 's> Decoder<'t, 'm, 's> {
     }
 
     /// Passes over the next envelope, where its member is one of this entry. Else nothing is read.
-    /// The
-    /// step that this takes is not counted yet.
+    /// The step that this takes is not counted yet.
     #[inline(always)]
     fn pass_next(
         &self,
@@ -133,8 +132,7 @@ impl<'t, 'm, 's> Decoder<'t, 'm, 's> {
     }
 
     /// Passes over the next envelopes, as long as their members are of this entry, and answers how
-    /// many
-    /// are read then. The steps, one for each, are not counted yet.
+    /// many are read then. The steps, one for each, are not counted yet.
     #[inline(always)]
     fn pass_run(
         &self,
@@ -172,8 +170,7 @@ impl<'t, 'm, 's> Decoder<'t, 'm, 's> {
     }
 
     /// Passes over the next envelope, whose member is of this entry and kind, and answers how many
-    /// are
-    /// read then. The step that this takes is not counted yet.
+    /// are read then. The step that this takes is not counted yet.
     #[inline(always)]
     fn pass_one(
         &self,
@@ -213,8 +210,7 @@ impl<'t, 'm, 's> Decoder<'t, 'm, 's> {
     }
 
     /// Passes over the next envelopes with members of one entry, and answers how many are read
-    /// then.
-    /// The steps, one for each, are not counted yet.
+    /// then. The steps, one for each, are not counted yet.
     #[inline(always)]
     fn pass_alike(&self, body: &TableBody<'_>, from: u32, state: &mut State<'_, '_>) -> u32
         requires body { BodyFine self.now.table.now body.now }
@@ -255,8 +251,7 @@ impl<'t, 'm, 's> Decoder<'t, 'm, 's> {
     }
 
     /// Passes over the next envelopes: those with members of one entry, or one that is absent;
-    /// answers
-    /// how many are read then. The steps, one for each, are not counted yet.
+    /// answers how many are read then. The steps, one for each, are not counted yet.
     #[inline(always)]
     fn pass_some(&self, body: &TableBody<'_>, from: u32, state: &mut State<'_, '_>) -> u32
         requires body { BodyFine self.now.table.now body.now }

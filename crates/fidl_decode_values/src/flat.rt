@@ -10,8 +10,7 @@ use fidl_table_format::EntryKind;
 
 impl<'t, 'm, 's> Decoder<'t, 'm, 's> {
     /// Whether so many rows, from the first on, are no more than are looked at, and their members
-    /// are
-    /// leaves.
+    /// are leaves.
     #[inline(never)]
     pub fn are_leaves(&self, first: u32, count: u32) -> bool
         requires within { first + count ≤ (header_of self.now.table.now).rows }

@@ -1,11 +1,12 @@
 //! Leaves: values that hold no other, or numbers alone.
-ghost use Rattle.std.specs.Prelude.{◌≡◌, ◌+◌, ◌-◌, ◌^◌, ◌<◌, ◌≤◌, OnOk, IfErr, IfSome, IsTrue};
-ghost use Rattle.std.specs.Prelude.{Contains, true, Some, None, length};
+ghost use Rattle.std.specs.Prelude.{◌≡◌, ◌+◌, ◌-◌, ◌^◌, ◌<◌, ◌≤◌, OnOk, IfErr, IfSome};
+ghost use Rattle.std.specs.Prelude.{IfNone, IsTrue, Contains, true, false, Some, None, length};
 ghost use Rattle.std.specs.Int.{byte_len};
 ghost use Rattle.fidl_limits.specs.declared.limits.TheConstants.{MAX_DEPTH};
 ghost use Rattle.fidl_wire.specs.Term as ty;
 ghost use Rattle.fidl_wire.specs.Term.{resolve, width};
 ghost use Rattle.fidl_wire.specs.Typed.{InMask};
+ghost use Rattle.fidl_table_format.specs.declared.kind.EntryKind.{EntryKind};
 ghost use Rattle.fidl_table_format.specs.declared.kind.EntryKind.TheVariants as kinds;
 ghost use Rattle.fidl_table_format.specs.Kind.{kind_of};
 ghost use Rattle.fidl_table_format.specs.Number.{number_standing};
@@ -28,6 +29,10 @@ use fidl_decode_model::DecodeFault;
 use fidl_decode_model::frame::State;
 use fidl_table_format::{Entry, EntryKind};
 
+/// The first number of a kind whose values can hold others. Those before it are the numbers of bools,
+/// integers, bits, enums and strings.
+const HOLDERS: u8 = 13;
+
 impl<'t, 'm, 's> Decoder<'t, 'm, 's> {
     /// Whether any bytes are a value of the entry.
     pub(crate) fn is_free_at(&self, entry: u32) -> bool
@@ -48,7 +53,7 @@ impl<'t, 'm, 's> Decoder<'t, 'm, 's> {
         requires kind { kind_of (entry_at self.now.table.now entry).kind ≡ Some kind }
         ensures { result ≡ is_leaf self.now.table.now (entry_at self.now.table.now entry) kind }
     {
-        // Most kinds are told from these by one look.
+        // One comparison tells these kinds from the others.
         match kind {
             EntryKind::Vector
             | EntryKind::Array
@@ -61,6 +66,30 @@ impl<'t, 'm, 's> Decoder<'t, 'm, 's> {
             },
             _ => true,
         }
+    }
+
+    /// The kind of an entry, where its values are leaves.
+    #[inline(always)]
+    pub fn leaf_kind(&self, entry: u32) -> Option<EntryKind>
+        requires entry { entry < (header_of self.now.table.now).entries }
+        ensures kind { IfSome result
+            (λ kind. kind_of (entry_at self.now.table.now entry).kind ≡ Some kind) }
+        ensures leaf { IfSome result
+            (λ kind. is_leaf self.now.table.now (entry_at self.now.table.now entry) kind ≡ true) }
+        ensures none { IfNone result ((kind : EntryKind)
+            → kind_of (entry_at self.now.table.now entry).kind ≡ Some kind
+            → is_leaf self.now.table.now (entry_at self.now.table.now entry) kind ≡ false) }
+    {
+        let e = self.entry(entry);
+        // One comparison of the number, so that the kind is looked up once, by what reads it.
+        if e.kind < HOLDERS {
+            return EntryKind::from_number(e.kind);
+        }
+        let kind = EntryKind::from_number(e.kind)?;
+        if self.is_leaf(entry, kind) {
+            return Some(kind);
+        }
+        None
     }
 
     /// Reads bits: strict ones have no bit outside their mask.
@@ -165,9 +194,9 @@ impl<'t, 'm, 's> Decoder<'t, 'm, 's> {
             }
             EntryKind::Bits => self.read_bits(&self.entry(entry), place, state),
             EntryKind::Enum => self.read_enum(entry, place, state),
-            EntryKind::Handle => { self.read_handle(&self.entry(entry), place, depth, state) }
-            EntryKind::String => self.read_text(&self.entry(entry), place, depth, state),
+            EntryKind::Handle => self.read_handle(&self.entry(entry), place, depth, state),
             EntryKind::Vector => self.read_numbers(entry, place, depth, state),
+            EntryKind::String => self.read_text(&self.entry(entry), place, depth, state),
             // Any bytes are a number, or an array of numbers.
             _ => Ok(()),
         }

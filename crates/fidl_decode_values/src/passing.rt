@@ -24,8 +24,7 @@ const NO_HANDLES_INSIDE: u32 = 0x1_0000;
 
 impl<'t, 'm, 's> Decoder<'t, 'm, 's> {
     /// Passes over the envelope at a place, in which a member of this size stands that any bytes
-    /// are
-    /// a value of, where its numbers and the bytes behind the member are right. Else nothing is
+    /// are a value of, where its numbers and the bytes behind the member are right. Else nothing is
     /// read.
     #[inline(always)]
     pub(crate) fn pass_inside(
@@ -176,8 +175,7 @@ impl<'t, 'm, 's> Decoder<'t, 'm, 's> {
     }
 
     /// Passes over the envelope of a member of this kind at a place, where the member is a number,
-    /// a
-    /// bool, a text or a struct of numbers, and the envelope's numbers are right. Else nothing is
+    /// a bool, a text or a struct of numbers, and the envelope's numbers are right. Else nothing is
     /// read.
     #[inline(always)]
     pub(crate) fn pass_kind(

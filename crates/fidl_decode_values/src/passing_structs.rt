@@ -18,8 +18,7 @@ use fidl_wire::MAX_DEPTH;
 
 impl<'t, 'm, 's> Decoder<'t, 'm, 's> {
     /// How many bytes the members of these rows have, where they are no more than are looked at:
-    /// any
-    /// bytes are values of them, and they stand behind one another without a gap.
+    /// any bytes are values of them, and they stand behind one another without a gap.
     #[inline(always)]
     fn free_size(&self, first: u32, count: u32) -> Option<usize>
         requires within { first + count ≤ (header_of self.now.table.now).rows }

@@ -85,7 +85,7 @@ impl<'t, 'm, 's> Decoder<'t, 'm, 's> {
         if !self.are_ascii(from, size, state) {
             return false;
         }
-        if self.zeros_at(from + behind, from + size, state).is_err() {
+        if self.padding_at(from + behind, from + size, state).is_err() {
             return false;
         }
         state.steps += size as u64;

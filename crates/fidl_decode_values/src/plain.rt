@@ -89,10 +89,8 @@ impl<'t, 'm, 's> Decoder<'t, 'm, 's> {
     }
 
     /// The bool among the rows up to this one, where it can be passed over behind rows with this
-    /// bool:
-    /// its member stands this far behind its struct's start, and any bytes are its value, or it is
-    /// the
-    /// only bool.
+    /// bool: its member stands this far behind its struct's start, and any bytes are its value, or
+    /// it is the only bool.
     #[inline(always)]
     fn next_flag(&self, row: &Row, done: usize, flag: Option<u32>) -> Option<Option<u32>>
         requires row { row.now.entry < (header_of self.now.table.now).entries }
@@ -202,8 +200,7 @@ impl<'t, 'm, 's> Decoder<'t, 'm, 's> {
     }
 
     /// Passes over the first rows of a struct, which are known to take any bytes but for a bool.
-    /// Where
-    /// the bool is wrong, the frame is left as it is.
+    /// Where the bool is wrong, the frame is left as it is.
     #[inline(always)]
     pub fn pass_over(&self, frame: Frame, plain: &Plain, state: &mut State<'_, '_>) -> Frame
         requires frame { FrameFine self.now.table.now (came self.now) frame }
@@ -213,8 +210,7 @@ impl<'t, 'm, 's> Decoder<'t, 'm, 's> {
         requires holds { Holds self.now state.old }
         requires state { StateFine (message self.now) (at_of state.old) }
         requires ready { CanReadFrame self.now state.old frame }
-        requires budget { state.old.steps + turn_work (came self.now) state.old.next frame < 2 ^ 40
-            }
+        requires budget { state.old.steps + turn_work (came self.now) state.old.next frame < 2 ^ 40 }
         ensures holds { Holds self.now state.new }
         ensures turns { Turns self.now.table.now
             (message self.now) frame (at_of state.old)
@@ -240,8 +236,7 @@ impl<'t, 'm, 's> Decoder<'t, 'm, 's> {
         requires holds { Holds self.now state.old }
         requires state { StateFine (message self.now) (at_of state.old) }
         requires ready { CanReadFrame self.now state.old frame }
-        requires budget { state.old.steps + turn_work (came self.now) state.old.next frame < 2 ^ 40
-            }
+        requires budget { state.old.steps + turn_work (came self.now) state.old.next frame < 2 ^ 40 }
         ensures holds { Holds self.now state.new }
         ensures turns { Turns self.now.table.now
             (message self.now) frame (at_of state.old)

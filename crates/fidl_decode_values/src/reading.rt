@@ -17,7 +17,7 @@ ghost use Rattle.fidl_decode_model.specs.Machine.{at_of};
 
 use crate::decoder::Decoder;
 use crate::passing_texts::are_ascii;
-use fidl_decode_columns::zeros_at;
+use fidl_decode_columns::{padding_at, zeros_at};
 use fidl_decode_model::DecodeFault;
 use fidl_decode_model::frame::State;
 use fidl_table_format::{EntryKind, number_bits};
@@ -127,6 +127,26 @@ impl<'t, 'm, 's> Decoder<'t, 'm, 's> {
         zeros_at(state.links.raw(), from, to)
     }
 
+    /// Zeros behind what an object holds, up to the next multiple of eight bytes.
+    #[inline(always)]
+    pub(crate) fn padding_at(
+        &self,
+        from: usize,
+        to: usize,
+        state: &State<'_, '_>,
+    ) -> Result<(), DecodeFault>
+        requires holds { Holds self.now state.now }
+        requires order { from ≤ to }
+        requires few { to < from + 8 }
+        requires aligned { to % 8 ≡ 0 }
+        requires room { to ≤ length (came self.now) }
+        requires free { AreFree (at_of state.now) from to }
+        ensures ok { OnOk result (Stands (came self.now) from (zeros (to - from))) }
+        ensures fault_is_true { IfErr result (IsPadding (came self.now) from to) }
+    {
+        padding_at(state.links.raw(), from, to)
+    }
+
     /// Whether so many bytes from a place on, whose number is a multiple of eight, are ASCII.
     #[inline(always)]
     pub(crate) fn are_ascii(&self, from: usize, size: usize, state: &State<'_, '_>) -> bool
@@ -134,8 +154,7 @@ impl<'t, 'm, 's> Decoder<'t, 'm, 's> {
         requires eights { size % 8 ≡ 0 }
         requires room { from + size ≤ length (came self.now) }
         requires free { AreFree (at_of state.now) from (from + size) }
-        ensures { IsTrue result → (k : ℕ) → k < size → slice_index (came self.now) (from + k) < 128
-            }
+        ensures { IsTrue result → (k : ℕ) → k < size → slice_index (came self.now) (from + k) < 128 }
     {
         are_ascii(state.links.raw(), from, size)
     }

@@ -19,8 +19,7 @@ use fidl_wire::{MAX_DEPTH, MAX_NEST};
 
 impl<'t, 'm, 's> Decoder<'t, 'm, 's> {
     /// Reads the count and the marker of a table at a place, and links its envelopes; answers how
-    /// many
-    /// these are.
+    /// many these are.
     #[inline(always)]
     fn open_table(
         &self,
@@ -73,8 +72,7 @@ impl<'t, 'm, 's> Decoder<'t, 'm, 's> {
     }
 
     /// Reads the count and the marker of a table at a place, links its envelopes, and reads those
-    /// that
-    /// it begins with as far as this can be done in place; the others are left to read.
+    /// that it begins with as far as this can be done in place; the others are left to read.
     #[inline(always)]
     pub fn read_table(
         &self,

@@ -106,7 +106,7 @@ impl<'t, 'm, 's> Decoder<'t, 'm, 's> {
         if !self.is_text(from, behind, size, state) {
             return Err(DecodeFault::NotUtf8 { at: from });
         }
-        self.zeros_at(from + behind, from + size, state)?;
+        self.padding_at(from + behind, from + size, state)?;
         state.links.link_marker(place + 8, from);
         state.next = from + size;
         Ok(())

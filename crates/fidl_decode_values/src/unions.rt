@@ -24,8 +24,7 @@ use fidl_table_format::Row;
 
 impl<'t, 'm, 's> Decoder<'t, 'm, 's> {
     /// Opens the envelope of a member at a place: a known one is passed over where it can be, and
-    /// else
-    /// left to read; one without a row is skipped.
+    /// else left to read; one without a row is skipped.
     #[inline(always)]
     pub(crate) fn open_envelope(
         &self,
@@ -34,8 +33,7 @@ impl<'t, 'm, 's> Decoder<'t, 'm, 's> {
         depth: u8,
         state: &mut State<'_, '_>,
     ) -> Result<Option<Frame>, DecodeFault>
-        requires member { IfSome member (λ row. row.entry < (header_of self.now.table.now).entries)
-            }
+        requires member { IfSome member (λ row. row.entry < (header_of self.now.table.now).entries) }
         requires room { envelope + 8 ≤ length (came self.now) }
         requires holds { Holds self.now state.old }
         requires state { StateFine (message self.now) (at_of state.old) }

@@ -112,8 +112,8 @@ impl<'t, 'm, 's> Decoder<'t, 'm, 's> {
     }
 
     /// Reads a vector at a place, with its elements, which any bytes are values of.
-    #[inline(never)]
-    pub(crate) fn read_numbers(
+    #[inline(always)]
+    pub fn pass_numbers(
         &self,
         entry: u32,
         place: usize,
@@ -146,6 +146,37 @@ impl<'t, 'm, 's> Decoder<'t, 'm, 's> {
             unreachable!()
         };
         self.pass_elements(frame, entry, size as usize, count, state)
+    }
+
+    /// Does the same out of line, for what reads many kinds.
+    #[inline(never)]
+    pub(crate) fn read_numbers(
+        &self,
+        entry: u32,
+        place: usize,
+        depth: u8,
+        state: &mut State<'_, '_>,
+    ) -> Result<(), DecodeFault>
+        requires entry { entry < (header_of self.now.table.now).entries }
+        requires kind { kind_of (entry_at self.now.table.now entry).kind ≡ Some kinds.Vector }
+        requires free { let d = entry_at self.now.table.now entry in
+            is_free_at self.now.table.now d.first ≡ true }
+        requires room { place + 16 ≤ length (came self.now) }
+        requires holds { Holds self.now state.old }
+        requires state { StateFine (message self.now) (at_of state.old) }
+        requires ready { CanReadPlace self.now state.old place 16 8 }
+        requires depth { depth ≤ MAX_DEPTH }
+        requires budget { state.old.steps < 2 ^ 41 }
+        ensures holds { Holds self.now state.new }
+        ensures ok { OnOk result (Visits self.now.table.now (message self.now) depth entry place
+            (at_of state.old) (at_of state.new) (state.new.steps - state.old.steps) None) }
+        ensures fault_is_true { IfErr result (Breaks (declarations_of self.now.table.now)
+            (message self.now) depth (resolve (declarations_of self.now.table.now).terms
+            (ty.named entry)) place (at_of state.old)) }
+        ensures spends { Spends state.old.steps state.new.steps 0 (probes + (length (came self.now)
+            - state.old.next)) }
+    {
+        self.pass_numbers(entry, place, depth, state)
     }
 
     /// Passes over elements that any bytes are values of, and reads the zeros behind them.

@@ -16,7 +16,8 @@ no_false e = cc
 
 pub take_turn-requires-clause-frame : goal.take_turn-requires-clause-frame
 take_turn-requires-clause-frame c =
-    let top = fine_top c.args.frames.now.decoder.table.now (message c.args.frames.now.decoder) 0 c.pop.new.self.items c.in-Some.frame (subst (λ (l : List Frame). StackFine c.args.frames.now.decoder.table.now c.args.frames.now.decoder.bytes.value.came 0 l) c.in-Some.ensures.items c.loop-frame.invariant.fine) in
+    let top = fine_top c.args.frames.now.decoder.table.now (message c.args.frames.now.decoder) 0 c.pop.new.self.items c.in-Some.frame (subst (λ
+    (l : List Frame). StackFine c.args.frames.now.decoder.table.now c.args.frames.now.decoder.bytes.value.came 0 l) c.in-Some.ensures.items c.loop-frame.invariant.fine) in
     top.1
 
 pub take_turn-requires-clause-ready : goal.take_turn-requires-clause-ready
@@ -26,12 +27,14 @@ take_turn-requires-clause-ready c =
 
 pub push_if-requires : goal.push_if-requires
 push_if-requires c =
-    let top = fine_top c.args.frames.now.decoder.table.now (message c.args.frames.now.decoder) 0 c.pop.new.self.items c.in-Some.frame (subst (λ (l : List Frame). StackFine c.args.frames.now.decoder.table.now c.args.frames.now.decoder.bytes.value.came 0 l) c.in-Some.ensures.items c.loop-frame.invariant.fine) in
+    let top = fine_top c.args.frames.now.decoder.table.now (message c.args.frames.now.decoder) 0 c.pop.new.self.items c.in-Some.frame (subst (λ
+    (l : List Frame). StackFine c.args.frames.now.decoder.table.now c.args.frames.now.decoder.bytes.value.came 0 l) c.in-Some.ensures.items c.loop-frame.invariant.fine) in
     room_if c.args.frames.now.decoder.table.now (message c.args.frames.now.decoder) (height c.in-Some.frame) (length c.pop.new.self.items) c.in_ok-turn.turn.rest c.in_ok-turn.ensures.ok.rest_fine (omega (arith, top.2))
 
 pub push_if-requires-in-Some : goal.push_if-requires-in-Some
 push_if-requires-in-Some c =
-    let top = fine_top c.args.frames.now.decoder.table.now (message c.args.frames.now.decoder) 0 c.pop.new.self.items c.in-Some.frame (subst (λ (l : List Frame). StackFine c.args.frames.now.decoder.table.now c.args.frames.now.decoder.bytes.value.came 0 l) c.in-Some.ensures.items c.loop-frame.invariant.fine) in
+    let top = fine_top c.args.frames.now.decoder.table.now (message c.args.frames.now.decoder) 0 c.pop.new.self.items c.in-Some.frame (subst (λ
+    (l : List Frame). StackFine c.args.frames.now.decoder.table.now c.args.frames.now.decoder.bytes.value.came 0 l) c.in-Some.ensures.items c.loop-frame.invariant.fine) in
     let one = ap length c.push_if.ensures in
     room_if c.args.frames.now.decoder.table.now (message c.args.frames.now.decoder) (height c.in-Some.frame + 1) (length c.push_if.new.stack.items)
     c.in_ok-turn.turn.below c.in_ok-turn.ensures.ok.below_fine (omega (
@@ -118,7 +121,8 @@ returns-in_err-turn-clause-cost c =
 
 pub returns-in_err-turn-clause-fault_is_true : goal.returns-in_err-turn-clause-fault_is_true
 returns-in_err-turn-clause-fault_is_true c =
-    let broken : (fault : DecodeFault) → BreaksFrame c.args.frames.now.decoder.table.now (message c.args.frames.now.decoder) c.in-Some.frame (at_of c.loop-frame.state) fault → IsStopped c.args.frames.now.decoder.table.now (message c.args.frames.now.decoder) c.args.stack.now.items (at_of c.args.state.now) fault = λ fault b.
+    let broken : (fault : DecodeFault) → BreaksFrame c.args.frames.now.decoder.table.now (message c.args.frames.now.decoder) c.in-Some.frame
+    (at_of c.loop-frame.state) fault → IsStopped c.args.frames.now.decoder.table.now (message c.args.frames.now.decoder) c.args.stack.now.items (at_of c.args.state.now) fault = λ fault b.
     broken_stopped c.args.frames.now.decoder.table.now (message c.args.frames.now.decoder) c.args.stack.now.items (at_of c.args.state.now) fault
     (c.loop-frame.invariant.breaks fault (subst (λ (l : List Frame). BreaksStack c.args.frames.now.decoder.table.now (message c.args.frames.now.decoder) l (at_of c.loop-frame.state) fault) (sym c.in-Some.ensures.items)
     (top_breaks c.args.frames.now.decoder.table.now (message c.args.frames.now.decoder) c.pop.new.self.items c.in-Some.frame (at_of c.loop-frame.state) fault b))) in

@@ -43,8 +43,8 @@ unreachable-requires c =
     let none : kind_of (entry_at c.args.self.now.decoder.table.now c.row-row.result.entry).kind ≡ None = ap (λ (e : Entry). kind_of e.kind) (sym c.entry-e.ensures.value) ∙ sym c.from_number.ensures ∙ c.in_default.is in
     no_some f.0 (sym f.1.is ∙ none)
 
-pub read_row-requires-clause-frame : goal.read_row-requires-clause-frame
-read_row-requires-clause-frame c =
+pub read_flat_row-requires-clause-frame : goal.read_flat_row-requires-clause-frame
+read_flat_row-requires-clause-frame c =
     let t = c.args.self.now.decoder.table.now in
     let m = message c.args.self.now.decoder in
     let f = c.args.frame in
@@ -55,16 +55,16 @@ read_row-requires-clause-frame c =
     let so_far = subst (λ (x : Frame). Turns t m f old now a (left_over (Some x))) (sym same) c.loop-many.invariant.turns in
     so_far.rest_fine.0
 
-pub read_row-requires-clause-leaf : goal.read_row-requires-clause-leaf
-read_row-requires-clause-leaf c =
+pub read_flat_row-requires-clause-leaf : goal.read_flat_row-requires-clause-leaf
+read_flat_row-requires-clause-leaf c =
     let t = c.args.self.now.decoder.table.now in
     let leaf = c.loop-many.invariant.leaves c.loop-many.next (omega arith) (omega (arith, c.loop-many-test.true)) in
     let is : kind_of (entry_at t (row_at t (header_of t) c.loop-many.next).entry).kind ≡ Some c.in-Some.kind = ap (λ (w : raw.Row). kind_of (entry_at t w.entry).kind) (sym c.row-row.ensures.value) ∙ ap (λ (e : Entry). kind_of e.kind) (sym c.entry-e.ensures.value) ∙ sym
     c.from_number.ensures ∙ c.in-Some.is in
     ap (λ (k : EntryKind). is_leaf t (entry_at t (row_at t (header_of t) c.loop-many.next).entry) k) (same_some c.in-Some.kind leaf.0 (sym is ∙ leaf.1)) ∙ leaf.2
 
-pub returns-in_err-read_row-clause-fault_is_true : goal.returns-in_err-read_row-clause-fault_is_true
-returns-in_err-read_row-clause-fault_is_true c =
+pub returns-in_err-read_flat_row-clause-fault_is_true : goal.returns-in_err-read_flat_row-clause-fault_is_true
+returns-in_err-read_flat_row-clause-fault_is_true c =
     let t = c.args.self.now.decoder.table.now in
     let m = message c.args.self.now.decoder in
     let f = c.args.frame in
@@ -74,7 +74,7 @@ returns-in_err-read_row-clause-fault_is_true c =
     let rest = c.rows_from-rest.result in
     let same = c.rows_from-rest.ensures in
     let so_far = subst (λ (x : Frame). Turns t m f old now a (left_over (Some x))) (sym same) c.loop-many.invariant.turns in
-    passed_on c.from_residual.result c.in_err-read_row.field-0.0 _ c.from_residual.ensures.1 (turns_break t m f old now a rest so_far _ c.in_err-read_row.ensures.fault_is_true)
+    passed_on c.from_residual.result c.in_err-read_flat_row.field-0.0 _ c.from_residual.ensures.1 (turns_break t m f old now a rest so_far _ c.in_err-read_flat_row.ensures.fault_is_true)
 
 pub loop-many-preserved : goal.loop-many-preserved
 loop-many-preserved c =
@@ -87,18 +87,18 @@ loop-many-preserved c =
     let begun = c.loop-many.invariant.steps in
     let same = c.rows_from-rest.ensures in
     let g = going_on c.args.frame (Rows c.loop-many.next c.loop-many.many) c.loop-many.done in
-    let new = at_of c.read_row.new.state in
-    let spent = c.read_row.new.state.steps - c.loop-many.state.steps in
+    let new = at_of c.read_flat_row.new.state in
+    let spent = c.read_flat_row.new.state.steps - c.loop-many.state.steps in
     let rows = Rows (c.loop-many.next + 1) (c.loop-many.many - 1) in
     let size : (row_at t (header_of t) c.loop-many.next).key + (entry_at t (row_at t (header_of t) c.loop-many.next).entry).size ≡ c.row-row.result.key + c.entry-e.result.size = ap (λ (w : raw.Row). w.key + (entry_at t w.entry).size) (sym c.row-row.ensures.value) ∙ ap (λ (e : Entry).
     c.row-row.result.key + e.size) (sym c.entry-e.ensures.value) in
-    let one = subst (λ (x : Frame). Turns t m x now new spent (left_over (Some (going_on x rows ((row_at t (header_of t) c.loop-many.next).key + (entry_at t (row_at t (header_of t) c.loop-many.next).entry).size))))) same c.in_ok-read_row.ensures.ok in
+    let one = subst (λ (x : Frame). Turns t m x now new spent (left_over (Some (going_on x rows ((row_at t (header_of t) c.loop-many.next).key + (entry_at t (row_at t (header_of t) c.loop-many.next).entry).size))))) same c.in_ok-read_flat_row.ensures.ok in
     let two = subst (λ d. Turns t m g now new spent (left_over (Some (going_on c.args.frame rows d)))) size one in
-    let rises = (one_more _ _ _ c.in_ok-read_row.ensures.spends) in
+    let rises = (one_more _ _ _ c.in_ok-read_flat_row.ensures.spends) in
     let done = c.row-row.result.key + c.entry-e.result.size in
     record {
-      holds = c.read_row.ensures.holds;
-      turns = turns_then t m f old now a g c.loop-many.invariant.turns new spent (c.read_row.new.state.steps - c.args.state.now.steps) (left_over (Some (going_on c.args.frame rows done))) (omega (arith, begun, rises)) two;
+      holds = c.read_flat_row.ensures.holds;
+      turns = turns_then t m f old now a g c.loop-many.invariant.turns new spent (c.read_flat_row.new.state.steps - c.args.state.now.steps) (left_over (Some (going_on c.args.frame rows done))) (omega (arith, begun, rises)) two;
       leaves = λ i from below. c.loop-many.invariant.leaves i (omega (arith, from)) (omega (arith, below, c.loop-many-test.true));
       steps = omega (arith, begun, rises);
     }
@@ -152,8 +152,8 @@ returns-clause-fault_is_true c =
     let so_far = subst (λ (x : Frame). Turns t m f old now a (left_over (Some x))) (sym same) over in
     IfErr-weaker c.end_rows.result _ _ (λ fault b. turns_break t m f old now a rest so_far fault b) c.end_rows.ensures.fault_is_true
 
-pub returns-in_err-read_row-clause-ok : goal.returns-in_err-read_row-clause-ok
-returns-in_err-read_row-clause-ok c = no_ok c.from_residual.result c.in_err-read_row.field-0.0 _ c.from_residual.ensures.1
+pub returns-in_err-read_flat_row-clause-ok : goal.returns-in_err-read_flat_row-clause-ok
+returns-in_err-read_flat_row-clause-ok c = no_ok c.from_residual.result c.in_err-read_flat_row.field-0.0 _ c.from_residual.ensures.1
 
 pub rows-rows-requires : goal.rows-rows-requires
 rows-rows-requires c = tt
@@ -178,25 +178,26 @@ row-row-requires c = first_in c.loop-many.next c.loop-many.many _ c.loop-many.in
 pub entry-e-requires : goal.entry-e-requires
 entry-e-requires c = c.row-row.ensures.entry
 
-pub read_row-requires-clause-left : goal.read_row-requires-clause-left
-read_row-requires-clause-left c = ap (λ (x : Frame). x.left) c.rows_from-rest.ensures
+pub read_flat_row-requires-clause-left : goal.read_flat_row-requires-clause-left
+read_flat_row-requires-clause-left c = ap (λ (x : Frame). x.left) c.rows_from-rest.ensures
 
-pub read_row-requires-clause-some : goal.read_row-requires-clause-some
-read_row-requires-clause-some c = some_left c.loop-many.many c.loop-many-test.true
+pub read_flat_row-requires-clause-some : goal.read_flat_row-requires-clause-some
+read_flat_row-requires-clause-some c = some_left c.loop-many.many c.loop-many-test.true
 
-pub read_row-requires-clause-kind : goal.read_row-requires-clause-kind
-read_row-requires-clause-kind c = ap (λ (w : raw.Row). kind_of (entry_at c.args.self.now.decoder.table.now w.entry).kind) (sym c.row-row.ensures.value) ∙ ap (λ (e : Entry). kind_of e.kind) (sym c.entry-e.ensures.value) ∙ sym c.from_number.ensures ∙ c.in-Some.is
+pub read_flat_row-requires-clause-kind : goal.read_flat_row-requires-clause-kind
+read_flat_row-requires-clause-kind c = ap (λ (w : raw.Row). kind_of (entry_at c.args.self.now.decoder.table.now w.entry).kind) (sym c.row-row.ensures.value) ∙ ap (λ (e : Entry). kind_of e.kind) (sym c.entry-e.ensures.value) ∙ sym c.from_number.ensures ∙ c.in-Some.is
 
-pub read_row-requires-clause-state : goal.read_row-requires-clause-state
-read_row-requires-clause-state c = c.loop-many.invariant.turns.state
+pub read_flat_row-requires-clause-state : goal.read_flat_row-requires-clause-state
+read_flat_row-requires-clause-state c = c.loop-many.invariant.turns.state
 
-pub read_row-requires-clause-budget : goal.read_row-requires-clause-budget
-read_row-requires-clause-budget c = subst (λ (x : Frame). c.loop-many.state.steps + turn_work c.args.self.now.decoder.bytes.value.came c.loop-many.state.next x < 2 ^ 40) (sym c.rows_from-rest.ensures) (budget_on _ _ _ c.args.state.now.steps c.loop-many.state.steps (2 ^ 40) c.loop-many.invariant.steps
+pub read_flat_row-requires-clause-budget : goal.read_flat_row-requires-clause-budget
+read_flat_row-requires-clause-budget c = subst (λ (x : Frame). c.loop-many.state.steps + turn_work c.args.self.now.decoder.bytes.value.came c.loop-many.state.next x < 2 ^ 40) (sym c.rows_from-rest.ensures)
+    (budget_on _ _ _ c.args.state.now.steps c.loop-many.state.steps (2 ^ 40) c.loop-many.invariant.steps
     c.loop-many.invariant.turns.less c.requires.budget)
 
-pub returns-in_err-read_row-clause-spends : goal.returns-in_err-read_row-clause-spends
-returns-in_err-read_row-clause-spends c = spends_some _ _ _ (rises_on _ _ _ c.loop-many.invariant.steps (one_more _ _ _ c.in_err-read_row.ensures.spends)) (cost_on _ _ _ c.args.state.now.steps c.loop-many.state.steps c.read_row.new.state.steps c.loop-many.invariant.steps
-    c.loop-many.invariant.turns.less (subst (λ (x : Frame). c.read_row.new.state.steps ≤ c.loop-many.state.steps + turn_work c.args.self.now.decoder.bytes.value.came c.loop-many.state.next x) c.rows_from-rest.ensures c.in_err-read_row.ensures.spends.most))
+pub returns-in_err-read_flat_row-clause-spends : goal.returns-in_err-read_flat_row-clause-spends
+returns-in_err-read_flat_row-clause-spends c = spends_some _ _ _ (rises_on _ _ _ c.loop-many.invariant.steps (one_more _ _ _ c.in_err-read_flat_row.ensures.spends)) (cost_on _ _ _ c.args.state.now.steps c.loop-many.state.steps c.read_flat_row.new.state.steps c.loop-many.invariant.steps
+    c.loop-many.invariant.turns.less (subst (λ (x : Frame). c.read_flat_row.new.state.steps ≤ c.loop-many.state.steps + turn_work c.args.self.now.decoder.bytes.value.came c.loop-many.state.next x) c.rows_from-rest.ensures c.in_err-read_flat_row.ensures.spends.most))
 
 pub overflow_sub-many : goal.overflow_sub-many
 overflow_sub-many c = some_left c.loop-many.many c.loop-many-test.true
@@ -218,8 +219,8 @@ pub end_rows-requires-clause-budget : goal.end_rows-requires-clause-budget
 end_rows-requires-clause-budget c = subst (λ (x : Frame). c.loop-many.state.steps + turn_work c.args.self.now.decoder.bytes.value.came c.loop-many.state.next x < 2 ^ 40) (sym c.rows_from.ensures) (budget_on _ _ _ c.args.state.now.steps c.loop-many.state.steps (2 ^ 40) c.loop-many.invariant.steps
     c.loop-many.invariant.turns.less c.requires.budget)
 
-pub read_row-requires-clause-ready : goal.read_row-requires-clause-ready
-read_row-requires-clause-ready c =
+pub read_flat_row-requires-clause-ready : goal.read_flat_row-requires-clause-ready
+read_flat_row-requires-clause-ready c =
     let t = c.args.self.now.decoder.table.now in
     let m = message c.args.self.now.decoder in
     let f = c.args.frame in

@@ -19,12 +19,6 @@ use Rattle.fidl_decode.proofs.frames.Frames.read_nested.Goals as goal
 no_some : {A : Type 0} (a : A) → Some a ≡ None → ⊥
 no_some a e = cc
 
-pub unreachable-requires : goal.unreachable-requires
-unreachable-requires c =
-    let f = c.args.self.now.decoder.fine.each c.row-row.result.entry c.row-row.ensures.entry in
-    let none : kind_of (entry_at c.args.self.now.decoder.table.now c.row-row.result.entry).kind ≡ None = ap (λ (e : Entry). kind_of e.kind) (sym c.entry-e.ensures.value) ∙ sym c.from_number.ensures ∙ c.in_default-from_number.is in
-    no_some f.0 (sym f.1.is ∙ none)
-
 pub read_row-requires-clause-frame : goal.read_row-requires-clause-frame
 read_row-requires-clause-frame c =
     let t = c.args.self.now.decoder.table.now in
@@ -50,8 +44,8 @@ returns-in_err-read_row-clause-fault_is_true c =
     let so_far = subst (λ (x : Frame). Turns t m f old now a (left_over (Some x))) (sym same) c.loop-many.invariant.turns in
     passed_on c.from_residual.result c.in_err-read_row.field-0.0 _ c.from_residual.ensures.1 (turns_break t m f old now a rest so_far _ c.in_err-read_row.ensures.fault_is_true)
 
-pub loop-many-preserved-then-is_leaf : goal.loop-many-preserved-then-is_leaf
-loop-many-preserved-then-is_leaf c =
+pub loop-many-preserved-in-Some : goal.loop-many-preserved-in-Some
+loop-many-preserved-in-Some c =
     let t = c.args.self.now.decoder.table.now in
     let m = message c.args.self.now.decoder in
     let f = c.args.frame in
@@ -328,8 +322,8 @@ rows_from-rest-requires c =
     let read = done_fits c.args.self.now.decoder.table.now c.args.self.now.decoder.fine (message c.args.self.now.decoder) g (at_of c.loop-many.state) turns.rest_fine.0 turns.state in
     record { small = omega (arith, read, turns.rest_fine.0.room, c.args.self.now.decoder.short) }
 
-pub is_leaf-requires : goal.is_leaf-requires
-is_leaf-requires c = record { entry = c.row-row.ensures.entry; kind = ap (λ (e : Entry). kind_of e.kind) (sym c.entry-e.ensures.value) ∙ sym c.from_number.ensures ∙ c.in-Some.is }
+pub leaf_kind-requires : goal.leaf_kind-requires
+leaf_kind-requires c = record { entry = c.row-row.ensures.entry }
 
 pub rows_from-requires : goal.rows_from-requires
 rows_from-requires c =
@@ -351,16 +345,17 @@ pub read_row-requires-clause-some : goal.read_row-requires-clause-some
 read_row-requires-clause-some c = some_left c.loop-many.many c.loop-many-test.true
 
 pub read_row-requires-clause-kind : goal.read_row-requires-clause-kind
-read_row-requires-clause-kind c = ap (λ (w : raw.Row). kind_of (entry_at c.args.self.now.decoder.table.now w.entry).kind) (sym c.row-row.ensures.value) ∙ ap (λ (e : Entry). kind_of e.kind) (sym c.entry-e.ensures.value) ∙ sym c.from_number.ensures ∙ c.in-Some.is
+read_row-requires-clause-kind c = ap (λ (w : raw.Row). kind_of (entry_at c.args.self.now.decoder.table.now w.entry).kind) (sym c.row-row.ensures.value) ∙ c.in-Some.ensures.kind
 
 pub read_row-requires-clause-leaf : goal.read_row-requires-clause-leaf
-read_row-requires-clause-leaf c = ap (λ (w : raw.Row). is_leaf c.args.self.now.decoder.table.now (entry_at c.args.self.now.decoder.table.now w.entry) c.in-Some.kind) (sym c.row-row.ensures.value) ∙ sym c.is_leaf.ensures ∙ c.if-is_leaf.true
+read_row-requires-clause-leaf c = ap (λ (w : raw.Row). is_leaf c.args.self.now.decoder.table.now (entry_at c.args.self.now.decoder.table.now w.entry) c.in-Some.kind) (sym c.row-row.ensures.value) ∙ c.in-Some.ensures.leaf
 
 pub read_row-requires-clause-state : goal.read_row-requires-clause-state
 read_row-requires-clause-state c = c.loop-many.invariant.turns.state
 
 pub read_row-requires-clause-budget : goal.read_row-requires-clause-budget
-read_row-requires-clause-budget c = subst (λ (x : Frame). c.loop-many.state.steps + turn_work c.args.self.now.decoder.bytes.value.came c.loop-many.state.next x < 2 ^ 40) (sym c.rows_from-rest.ensures) (budget_on _ _ _ c.args.state.now.steps c.loop-many.state.steps (2 ^ 40) c.loop-many.invariant.steps
+read_row-requires-clause-budget c = subst (λ (x : Frame). c.loop-many.state.steps + turn_work c.args.self.now.decoder.bytes.value.came c.loop-many.state.next x < 2 ^ 40) (sym c.rows_from-rest.ensures)
+    (budget_on _ _ _ c.args.state.now.steps c.loop-many.state.steps (2 ^ 40) c.loop-many.invariant.steps
     c.loop-many.invariant.turns.less c.requires.budget)
 
 pub ends_in_box-requires : goal.ends_in_box-requires
@@ -386,7 +381,8 @@ pub enter_box-requires-clause-state : goal.enter_box-requires-clause-state
 enter_box-requires-clause-state c = c.loop-many.invariant.turns.state
 
 pub enter_box-requires-clause-budget : goal.enter_box-requires-clause-budget
-enter_box-requires-clause-budget c = subst (λ (x : Frame). c.loop-many.state.steps + turn_work c.args.self.now.decoder.bytes.value.came c.loop-many.state.next x < 2 ^ 40) (sym c.rows_from-rest.ensures) (budget_on _ _ _ c.args.state.now.steps c.loop-many.state.steps (2 ^ 40) c.loop-many.invariant.steps
+enter_box-requires-clause-budget c = subst (λ (x : Frame). c.loop-many.state.steps + turn_work c.args.self.now.decoder.bytes.value.came c.loop-many.state.next x < 2 ^ 40) (sym c.rows_from-rest.ensures)
+    (budget_on _ _ _ c.args.state.now.steps c.loop-many.state.steps (2 ^ 40) c.loop-many.invariant.steps
     c.loop-many.invariant.turns.less c.requires.budget)
 
 pub pass_known-content-requires-clause-known : goal.pass_known-content-requires-clause-known
@@ -425,7 +421,8 @@ pub returns-clause-ended : goal.returns-clause-ended
 returns-clause-ended c = rises_on _ _ _ c.loop-many.invariant.steps (one_more _ _ _ c.in_ok-end_rows.ensures.spends)
 
 pub returns-clause-cost : goal.returns-clause-cost
-returns-clause-cost c = cost_on _ _ _ c.args.state.now.steps c.loop-many.state.steps c.end_rows.new.state.steps c.loop-many.invariant.steps c.loop-many.invariant.turns.less (subst (λ (x : Frame). c.end_rows.new.state.steps ≤ c.loop-many.state.steps + turn_work c.args.self.now.decoder.bytes.value.came
+returns-clause-cost c = cost_on _ _ _ c.args.state.now.steps c.loop-many.state.steps c.end_rows.new.state.steps c.loop-many.invariant.steps c.loop-many.invariant.turns.less (subst (λ
+    (x : Frame). c.end_rows.new.state.steps ≤ c.loop-many.state.steps + turn_work c.args.self.now.decoder.bytes.value.came
     c.loop-many.state.next x) c.rows_from.ensures c.in_ok-end_rows.ensures.spends.most)
 
 pub returns-clause-fault_is_true : goal.returns-clause-fault_is_true
@@ -476,8 +473,8 @@ overflow_sub-many c = some_left c.loop-many.many c.loop-many-test.true
 pub overflow_add-next : goal.overflow_add-next
 overflow_add-next c = record { fits = next_fits c.loop-many.next c.loop-many.many _ c.rows-rows.result _ c.loop-many.invariant.turns.rest_fine.0.left c.rows-rows.ensures.value c.rows-rows.type_inv c.loop-many-test.true }
 
-pub loop-many-smaller-then-is_leaf : goal.loop-many-smaller-then-is_leaf
-loop-many-smaller-then-is_leaf c =
+pub loop-many-smaller-in-Some : goal.loop-many-smaller-in-Some
+loop-many-smaller-in-Some c =
     let t = c.args.self.now.decoder.table.now in
     let m = message c.args.self.now.decoder in
     let now = at_of c.loop-many.state in
@@ -494,7 +491,8 @@ loop-many-smaller-then-is_leaf c =
     smaller_on _ _ _ c.loop-many.state.steps c.read_row.new.state.steps two.less rises
 
 pub returns-in_default : goal.returns-in_default
-returns-in_default c = record { holds = c.requires.holds; ok = turns_stay c.args.self.now.decoder.table.now (message c.args.self.now.decoder) c.args.frame (at_of c.args.state.now) c.requires.frame c.requires.state _ (omega arith); grows = omega arith; ended = tt; cost = omega arith; fault_is_true = tt }
+returns-in_default c = record { holds = c.requires.holds; ok = turns_stay c.args.self.now.decoder.table.now (message c.args.self.now.decoder) c.args.frame (at_of c.args.state.now) c.requires.frame c.requires.state _
+    (omega arith); grows = omega arith; ended = tt; cost = omega arith; fault_is_true = tt }
 
 pub loop-many-init : goal.loop-many-init
 loop-many-init c = record {

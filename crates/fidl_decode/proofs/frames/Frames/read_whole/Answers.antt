@@ -227,7 +227,8 @@ pub returns-clause-fault_is_true : goal.returns-clause-fault_is_true
 returns-clause-fault_is_true c = tt
 
 pub read_flat-requires-clause-ready : goal.read_flat-requires-clause-ready
-read_flat-requires-clause-ready c = content_ready c.args.self.now.decoder.table.now (message c.args.self.now.decoder) (at_of c.args.state.now) c.args.self.now.decoder.fine c.args.frame c.args.entry c.args.size 1 c.args.until c.requires.left (omega arith) c.requires.frame c.requires.state c.requires.ready
+read_flat-requires-clause-ready c = content_ready c.args.self.now.decoder.table.now (message c.args.self.now.decoder)
+    (at_of c.args.state.now) c.args.self.now.decoder.fine c.args.frame c.args.entry c.args.size 1 c.args.until c.requires.left (omega arith) c.requires.frame c.requires.state c.requires.ready
 
 pub zeros_at-requires-clause-free : goal.zeros_at-requires-clause-free
 zeros_at-requires-clause-free c =

@@ -237,4 +237,5 @@ returns-clause-fault_is_true c = tt
 
 pub visit-requires-clause-ready : goal.visit-requires-clause-ready
 visit-requires-clause-ready c =
-    content_ready c.args.self.now.decoder.table.now (message c.args.self.now.decoder) (at_of c.args.state.now) c.args.self.now.decoder.fine c.args.frame c.args.entry c.args.size c.args.count c.args.until c.requires.left (omega (arith, c.if-count-eq0.false)) c.requires.frame c.requires.state c.requires.ready
+    content_ready c.args.self.now.decoder.table.now (message c.args.self.now.decoder) (at_of c.args.state.now) c.args.self.now.decoder.fine c.args.frame c.args.entry c.args.size c.args.count c.args.until c.requires.left
+    (omega (arith, c.if-count-eq0.false)) c.requires.frame c.requires.state c.requires.ready

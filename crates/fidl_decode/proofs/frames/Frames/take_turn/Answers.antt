@@ -46,7 +46,8 @@ pub returns-in_default-clause-ok : goal.returns-in_default-clause-ok
 returns-in_default-clause-ok c =
     let so_far = c.loop-now.invariant.steps in
     let grows = c.in_ok-now.ensures.grows in
-    let two = subst (λ (o : Option Frame). Turns c.args.self.now.decoder.table.now (message c.args.self.now.decoder) c.loop-now.rest (at_of c.loop-now.state) (at_of c.read_leaves.new.state) (c.read_leaves.new.state.steps - c.loop-now.state.steps) (left_over o)) c.in_default.is c.in_ok-now.ensures.ok in
+    let two = subst (λ (o : Option Frame). Turns c.args.self.now.decoder.table.now (message c.args.self.now.decoder) c.loop-now.rest (at_of c.loop-now.state) (at_of c.read_leaves.new.state)
+    (c.read_leaves.new.state.steps - c.loop-now.state.steps) (left_over o)) c.in_default.is c.in_ok-now.ensures.ok in
     let held : Turns c.args.self.now.decoder.table.now (message c.args.self.now.decoder) c.args.frame (at_of c.args.state.now) (at_of c.read_leaves.new.state)
     (c.read_leaves.new.state.steps - c.args.state.now.steps) (left_over None) = turns_then c.args.self.now.decoder.table.now (message c.args.self.now.decoder)
     c.args.frame (at_of c.args.state.now) (at_of c.loop-now.state) (c.loop-now.state.steps - c.args.state.now.steps) c.loop-now.rest
@@ -330,7 +331,8 @@ loop-now-preserved c =
 
 pub returns-in_err-now-clause-fault_is_true : goal.returns-in_err-now-clause-fault_is_true
 returns-in_err-now-clause-fault_is_true c =
-    let h = (turns_break c.args.self.now.decoder.table.now (message c.args.self.now.decoder) c.args.frame (at_of c.args.state.now) (at_of c.loop-now.state) (c.loop-now.state.steps - c.args.state.now.steps) c.loop-now.rest c.loop-now.invariant.turns _ c.in_err-now.ensures.fault_is_true) in search (rules, h)
+    let h = (turns_break c.args.self.now.decoder.table.now (message c.args.self.now.decoder) c.args.frame (at_of c.args.state.now) (at_of c.loop-now.state)
+    (c.loop-now.state.steps - c.args.state.now.steps) c.loop-now.rest c.loop-now.invariant.turns _ c.in_err-now.ensures.fault_is_true) in search (rules, h)
 
 pub returns-in_err-turn-clause-fault_is_true : goal.returns-in_err-turn-clause-fault_is_true
 returns-in_err-turn-clause-fault_is_true c =

@@ -51,7 +51,7 @@ returns-clause-passed c =
     let led : linked (from + 8) n (linked p (entry_at t e).size (opened p old)) ≡ new = λ i. record { next = from + wide i + sym value i; handle = old.handle; objects = sym objects i; records = sym records i } in
     text_passed t c.args.self.now.fine m (c.args.self.now.short, c.requires.state.few) c.args.depth e p old c.requires.entry c.requires.room small c.requires.state c.requires.depth c.requires.kind
     (omega (arith, c.if-depth-ge-MAX_DEPTH.false)) n room (sym c.u64_at-count.ensures) bound (c.is_present.ensures.0 c.if-not-is_present.false)
-    (λ k lt. c.are_ascii.ensures c.if-not-are_ascii.false k (omega (arith, lt, le, value))) (subst (λ k. Stands bytes (from + 16 + n) (zeros k)) gap (not_err c.zeros_at.result (sym c.is_err.ensures.value ∙ c.if-is_err.false) c.zeros_at.ensures.ok))
+    (λ k lt. c.are_ascii.ensures c.if-not-are_ascii.false k (omega (arith, lt, le, value))) (subst (λ k. Stands bytes (from + 16 + n) (zeros k)) gap (not_err c.padding_at.result (sym c.is_err.ensures.value ∙ c.if-is_err.false) c.padding_at.ensures.ok))
     (flags_none bytes p c.requires.room small few) (counted_small bytes p c.requires.room small few ∙ sym c.u64_at-counted.ensures ∙ omega (arith, counted, value)) (handles_none bytes p c.requires.room small few) new led _ (omega (arith, value))
 
 pub entry-bound-requires : goal.entry-bound-requires
@@ -183,11 +183,11 @@ overflow_add-from-3 c = record {
       (size_fits c.args.self.now.sized _ _ c.if-counted-rest.false) c.if-counted-size.false) c.args.self.now.short;
 }
 
-pub zeros_at-requires-clause-order : goal.zeros_at-requires-clause-order
-zeros_at-requires-clause-order c = part_order (c.args.state.now.next + 16) c.u64_at-count.result c.next_multiple_of-size.result c.next_multiple_of-size.ensures.lower_bound
+pub padding_at-requires-clause-order : goal.padding_at-requires-clause-order
+padding_at-requires-clause-order c = part_order (c.args.state.now.next + 16) c.u64_at-count.result c.next_multiple_of-size.result c.next_multiple_of-size.ensures.lower_bound
 
-pub zeros_at-requires-clause-room : goal.zeros_at-requires-clause-room
-zeros_at-requires-clause-room c = (counted_whole c.args.state.now.next c.u64_at-counted.result c.next_multiple_of-size.result (length c.args.self.now.bytes.value.came) (size_fits c.args.self.now.sized _ _ c.if-counted-rest.false) c.if-counted-size.false)
+pub padding_at-requires-clause-room : goal.padding_at-requires-clause-room
+padding_at-requires-clause-room c = (counted_whole c.args.state.now.next c.u64_at-counted.result c.next_multiple_of-size.result (length c.args.self.now.bytes.value.came) (size_fits c.args.self.now.sized _ _ c.if-counted-rest.false) c.if-counted-size.false)
 
 pub overflow_add-state : goal.overflow_add-state
 overflow_add-state c = record {
@@ -224,8 +224,8 @@ are_ascii-requires-clause-free c =
     ahead_part m (at_of c.args.state.now) _ _ c.requires.ready.0 (le_more _ _)
     (counted_whole c.args.state.now.next c.u64_at-counted.result c.next_multiple_of-size.result (length m.bytes) (size_fits c.args.self.now.sized _ _ c.if-counted-rest.false) c.if-counted-size.false)
 
-pub zeros_at-requires-clause-free : goal.zeros_at-requires-clause-free
-zeros_at-requires-clause-free c =
+pub padding_at-requires-clause-free : goal.padding_at-requires-clause-free
+padding_at-requires-clause-free c =
     let m = message c.args.self.now in
     ahead_part m (at_of c.args.state.now) _ _ c.requires.ready.0 (le_two _ _ _)
     (counted_whole c.args.state.now.next c.u64_at-counted.result c.next_multiple_of-size.result (length m.bytes) (size_fits c.args.self.now.sized _ _ c.if-counted-rest.false) c.if-counted-size.false)

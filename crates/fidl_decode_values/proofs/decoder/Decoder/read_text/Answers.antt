@@ -41,7 +41,7 @@ returns-clause-ok c =
     (omega (arith, c.requires.room)) (λ i. omega (arith, c.args.self.now.octets i)) n (sym c.u64_at-count.ensures)
     (omega (arith, c.if-count-entry.false)) (omega (arith, value, within, (size_fits c.args.self.now.sized _ _ c.if-size-rest.false)))
     (le-next_multiple_of n 8)
-    (c.is_text.ensures.0 c.if-not-is_text.false) (subst (λ k. Stands c.args.self.now.bytes.value.came (from + n) (zeros k)) gap c.in_ok-zeros_at.ensures.ok))
+    (c.is_text.ensures.0 c.if-not-is_text.false) (subst (λ k. Stands c.args.self.now.bytes.value.came (from + n) (zeros k)) gap c.in_ok-padding_at.ensures.ok))
 
 pub returns-then-not-is_absent-clause-ok : goal.returns-then-not-is_absent-clause-ok
 returns-then-not-is_absent-clause-ok c = tt
@@ -166,14 +166,14 @@ overflow_add-from c = record { fits = omega arith }
 pub returns-clause-fault_is_true : goal.returns-clause-fault_is_true
 returns-clause-fault_is_true c = tt
 
-pub returns-in_err-zeros_at-clause-ok : goal.returns-in_err-zeros_at-clause-ok
-returns-in_err-zeros_at-clause-ok c = no_ok c.from_residual.result c.in_err-zeros_at.field-0.0 _ c.from_residual.ensures.1
+pub returns-in_err-padding_at-clause-ok : goal.returns-in_err-padding_at-clause-ok
+returns-in_err-padding_at-clause-ok c = no_ok c.from_residual.result c.in_err-padding_at.field-0.0 _ c.from_residual.ensures.1
 
-pub returns-in_err-zeros_at-clause-state : goal.returns-in_err-zeros_at-clause-state
-returns-in_err-zeros_at-clause-state c = no_ok c.from_residual.result c.in_err-zeros_at.field-0.0 _ c.from_residual.ensures.1
+pub returns-in_err-padding_at-clause-state : goal.returns-in_err-padding_at-clause-state
+returns-in_err-padding_at-clause-state c = no_ok c.from_residual.result c.in_err-padding_at.field-0.0 _ c.from_residual.ensures.1
 
-pub returns-in_err-zeros_at-clause-spent : goal.returns-in_err-zeros_at-clause-spent
-returns-in_err-zeros_at-clause-spent c = no_ok c.from_residual.result c.in_err-zeros_at.field-0.0 _ c.from_residual.ensures.1
+pub returns-in_err-padding_at-clause-spent : goal.returns-in_err-padding_at-clause-spent
+returns-in_err-padding_at-clause-spent c = no_ok c.from_residual.result c.in_err-padding_at.field-0.0 _ c.from_residual.ensures.1
 
 pub returns-then-not-is_absent-clause-fault_is_true : goal.returns-then-not-is_absent-clause-fault_is_true
 returns-then-not-is_absent-clause-fault_is_true c = (refl, λ z. clash (c.is_absent.ensures.1 z) c.if-not-is_absent.true, λ p. clash (c.is_present.ensures.1 p) c.if-not-is_present.true)
@@ -209,8 +209,8 @@ returns-then-size-rest-clause-fault_is_true c = (
 pub returns-then-not-is_text-clause-spends : goal.returns-then-not-is_text-clause-spends
 returns-then-not-is_text-clause-spends c = spends_any _ _ _ (le_more _ _) (part_order _ _ _ (size_fits c.args.self.now.sized _ _ c.if-size-rest.false))
 
-pub returns-in_err-zeros_at-clause-spends : goal.returns-in_err-zeros_at-clause-spends
-returns-in_err-zeros_at-clause-spends c = spends_any _ _ _ (le_more _ _) (part_order _ _ _ (size_fits c.args.self.now.sized _ _ c.if-size-rest.false))
+pub returns-in_err-padding_at-clause-spends : goal.returns-in_err-padding_at-clause-spends
+returns-in_err-padding_at-clause-spends c = spends_any _ _ _ (le_more _ _) (part_order _ _ _ (size_fits c.args.self.now.sized _ _ c.if-size-rest.false))
 
 pub returns-clause-spent : goal.returns-clause-spent
 returns-clause-spent c = spent_text _ _ _
@@ -254,11 +254,11 @@ overflow_add-place-2 c = record { fits = small _ (length c.args.self.now.bytes.v
 pub overflow_add-state-2 : goal.overflow_add-state-2
 overflow_add-state-2 c = record { fits = small _ (length c.args.self.now.bytes.value.came) ((ended c.args.state.now.next c.next_multiple_of-size.result (length c.args.self.now.bytes.value.came) c.requires.state.next (size_fits c.args.self.now.sized _ _ c.if-size-rest.false))) c.args.self.now.short }
 
-pub zeros_at-requires-clause-order : goal.zeros_at-requires-clause-order
-zeros_at-requires-clause-order c = part_order c.args.state.now.next c.u64_at-count.result c.next_multiple_of-size.result c.next_multiple_of-size.ensures.lower_bound
+pub padding_at-requires-clause-order : goal.padding_at-requires-clause-order
+padding_at-requires-clause-order c = part_order c.args.state.now.next c.u64_at-count.result c.next_multiple_of-size.result c.next_multiple_of-size.ensures.lower_bound
 
-pub zeros_at-requires-clause-room : goal.zeros_at-requires-clause-room
-zeros_at-requires-clause-room c = (ended c.args.state.now.next c.next_multiple_of-size.result (length c.args.self.now.bytes.value.came) c.requires.state.next (size_fits c.args.self.now.sized _ _ c.if-size-rest.false))
+pub padding_at-requires-clause-room : goal.padding_at-requires-clause-room
+padding_at-requires-clause-room c = (ended c.args.state.now.next c.next_multiple_of-size.result (length c.args.self.now.bytes.value.came) c.requires.state.next (size_fits c.args.self.now.sized _ _ c.if-size-rest.false))
 
 pub returns-then-not-is_absent-clause-least : goal.returns-then-not-is_absent-clause-least
 returns-then-not-is_absent-clause-least c = tt
@@ -284,8 +284,8 @@ returns-then-size-rest-clause-least c = tt
 pub returns-then-not-is_text-clause-least : goal.returns-then-not-is_text-clause-least
 returns-then-not-is_text-clause-least c = tt
 
-pub returns-in_err-zeros_at-clause-least : goal.returns-in_err-zeros_at-clause-least
-returns-in_err-zeros_at-clause-least c = no_ok c.from_residual.result c.in_err-zeros_at.field-0.0 _ c.from_residual.ensures.1
+pub returns-in_err-padding_at-clause-least : goal.returns-in_err-padding_at-clause-least
+returns-in_err-padding_at-clause-least c = no_ok c.from_residual.result c.in_err-padding_at.field-0.0 _ c.from_residual.ensures.1
 
 pub returns-then-not-is_present-clause-least : goal.returns-then-not-is_present-clause-least
 returns-then-not-is_present-clause-least c = λ to x.
@@ -305,8 +305,8 @@ is_text-requires-clause-free c =
     ahead_part m (at_of c.args.state.now) _ _ c.requires.ready.0 (same_le _)
     (ended c.args.state.now.next c.next_multiple_of-size.result (length m.bytes) c.requires.state.next (size_fits c.args.self.now.sized _ _ c.if-size-rest.false))
 
-pub zeros_at-requires-clause-free : goal.zeros_at-requires-clause-free
-zeros_at-requires-clause-free c =
+pub padding_at-requires-clause-free : goal.padding_at-requires-clause-free
+padding_at-requires-clause-free c =
     let m = message c.args.self.now in
     ahead_part m (at_of c.args.state.now) _ _ c.requires.ready.0 (le_more _ _)
     (ended c.args.state.now.next c.next_multiple_of-size.result (length m.bytes) c.requires.state.next (size_fits c.args.self.now.sized _ _ c.if-size-rest.false))

@@ -12,7 +12,7 @@ use Rattle.fidl_decode_model.proofs.Listed.{vector_breaks}
 use Rattle.fidl_decode_columns.proofs.Wholly.{visits_over}
 use Rattle.fidl_table_format.specs.declared.kind.EntryKind.TheVariants.{Vector}
 use Rattle.fidl_decode_values.proofs.ReadyPlaces.{value_of}
-use Rattle.fidl_decode_values.proofs.decoder.Decoder.read_numbers.Goals as goal
+use Rattle.fidl_decode_values.proofs.decoder.Decoder.pass_numbers.Goals as goal
 
 pub returns-in_err-frame-clause-fault_is_true : goal.returns-in_err-frame-clause-fault_is_true
 returns-in_err-frame-clause-fault_is_true c =
