@@ -81,8 +81,9 @@ impl<'t, 'm, 's> Decoder<'t, 'm, 's> {
             → is_leaf self.now.table.now (entry_at self.now.table.now entry) kind ≡ false) }
     {
         let e = self.entry(entry);
-        // One comparison of the number, so that the kind is looked up once, by what reads it.
-        if e.kind < HOLDERS {
+        // One comparison of the number, so that the kind is looked up once, by what reads it. No kind
+        // has the number 0.
+        if e.kind != 0 && e.kind < HOLDERS {
             return EntryKind::from_number(e.kind);
         }
         let kind = EntryKind::from_number(e.kind)?;
