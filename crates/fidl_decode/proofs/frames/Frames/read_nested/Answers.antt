@@ -491,8 +491,15 @@ loop-many-smaller-in-Some c =
     smaller_on _ _ _ c.loop-many.state.steps c.read_row.new.state.steps two.less rises
 
 pub returns-in_default : goal.returns-in_default
-returns-in_default c = record { holds = c.requires.holds; ok = turns_stay c.args.self.now.decoder.table.now (message c.args.self.now.decoder) c.args.frame (at_of c.args.state.now) c.requires.frame c.requires.state _
-    (omega arith); grows = omega arith; ended = tt; cost = omega arith; fault_is_true = tt }
+returns-in_default c = record {
+  holds = c.requires.holds;
+  ok = turns_stay c.args.self.now.decoder.table.now (message c.args.self.now.decoder) c.args.frame (at_of c.args.state.now) c.requires.frame c.requires.state _
+      (omega arith);
+  grows = omega arith;
+  ended = tt;
+  cost = omega arith;
+  fault_is_true = tt;
+}
 
 pub loop-many-init : goal.loop-many-init
 loop-many-init c = record {
