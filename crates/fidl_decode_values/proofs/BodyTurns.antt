@@ -57,32 +57,31 @@ module _ (t : List ℕ) (fine : IsFine t) (m : Message) (within : IsWithin m.byt
       (envelope_opened t fine m within (rest_of b read) b.entry read (b.count - read) old ff state (read + 1) (b.count - (read + 1)) (add-one read) (omega (arith, more)) (omega (arith, more)) some None new spent n some_steps few (omega (arith, pays, within_new, within_old)) own)
 
 -- the rows of the entry that is noted lie in the table, and name entries of it
-pub row_lies : (t : List ℕ) (b : TableBody) → BodyFine t b → (read : ℕ) → read < b.known → b.first + read < (header_of t).rows
+pub row_lies : (t : List ℕ) (b : TableBody) → BodyFine t b → (read : ℕ) → read < b.known → (entry_at t b.entry).first + read < (header_of t).rows
 row_lies t b bf read more =
     let d = entry_at t b.entry in
     let uses : IsTrue (kind_is uses_ordinals d) = ap (λ (o : Option EntryKind). option_map_or uses_ordinals o false) bf.is in
     let within = lies_within t bf.well b.entry bf.entry uses d refl in
-    let first = bf.first in
     let known = bf.known in
-    omega (arith, within, first, known, more)
+    omega (arith, within, known, more)
 
-pub row_names : (t : List ℕ) (b : TableBody) → BodyFine t b → (read : ℕ) → read < b.known → (row_at t (header_of t) (b.first + read)).entry < (header_of t).entries
+pub row_names : (t : List ℕ) (b : TableBody) → BodyFine t b → (read : ℕ) → read < b.known → (row_at t (header_of t) ((entry_at t b.entry).first + read)).entry < (header_of t).entries
 row_names t b bf read more =
     let d = entry_at t b.entry in
     let uses : IsTrue (kind_is uses_rows d) = ap (λ (o : Option EntryKind). option_map_or uses_rows o false) bf.is in
     let known = bf.known in
-    subst (λ n. (row_at t (header_of t) (n + read)).entry < (header_of t).entries) (sym bf.first) ((bf.well.entries b.entry bf.entry).children.members uses read (omega (arith, more, known)))
+    (bf.well.entries b.entry bf.entry).children.members uses read (omega (arith, more, known))
 
 -- a row lies within the bytes of a table
 pub row_fits : (h : Header) (n i : ℕ) → n ≡ table_length h → i < h.rows → row_place h i + 16 ≤ n
 row_fits h n i whole less = omega (arith, whole, less)
 
 -- the row of the next envelope is that of its ordinal's member
-pub body_found : (t : List ℕ) (b : TableBody) → BodyFine t b → (read : ℕ) → read < b.known → (row : Row) → row ≡ row_at b.table.now (header_of b.table.now) (b.first + read) → row.key ≡ read + 1 → find (members_of t b.entry) (suc read) ≡ Some (ty.named row.entry)
+pub body_found : (t : List ℕ) (b : TableBody) → BodyFine t b → (read : ℕ) → read < b.known → (row : Row) → row ≡ row_at b.table.now (header_of b.table.now) ((entry_at b.table.now b.entry).first + read) → row.key ≡ read + 1 → find (members_of t b.entry) (suc read) ≡ Some (ty.named row.entry)
 body_found t b bf read more row here key =
     let d = entry_at t b.entry in
     let uses : IsTrue (kind_is uses_ordinals d) = ap (λ (o : Option EntryKind). option_map_or uses_ordinals o false) bf.is in
-    let there : row ≡ row_at t (header_of t) (d.first + read) = here ∙ ap (λ u. row_at u (header_of u) (b.first + read)) bf.table ∙ ap (λ n. row_at t (header_of t) (n + read)) bf.first in
+    let there : row ≡ row_at t (header_of t) (d.first + read) = here ∙ ap (λ u. row_at u (header_of u) ((entry_at u b.entry).first + read)) bf.table in
     let known = bf.known in
     if_some t bf.well b.entry bf.entry uses d refl (suc read) (Some row) (read, omega (arith, more, known), there, key ∙ add-one read)
 

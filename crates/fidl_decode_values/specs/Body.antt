@@ -4,7 +4,7 @@ use Rattle.std.specs.Int.{next_multiple_of}
 use Rattle.fidl_table_format.specs.declared.kind.EntryKind.{EntryKind}
 use Rattle.fidl_table_format.specs.declared.kind.EntryKind.TheVariants.{Table}
 use Rattle.fidl_table_format.specs.Kind.{kind_of}
-use Rattle.fidl_table_format.specs.Section.{header_of, entry_at}
+use Rattle.fidl_table_format.specs.Section.{header_of, entry_at, row_place}
 use Rattle.fidl_table_format.specs.WellFormed.{WellFormed}
 use Rattle.fidl_decode_model.specs.declared.frame.Frame.{Frame}
 use Rattle.fidl_decode_model.specs.declared.frame.Remaining.TheVariants.{Elements, Envelopes}
@@ -14,15 +14,14 @@ use Rattle.fidl_decode_values.specs.declared.body.Passing.TheVariants.{Inside, B
 use Rattle.fidl_decode_model.specs.Invariants.{is_free}
 use Rattle.fidl_decode_model.specs.Machine.{most_nest}
 
--- what is noted of a table's entry is so: its header, the first of its rows, and how many of them
+-- what is noted of a table's entry is so: where the first of its rows stands, and how many of them
 -- name members of these envelopes
 pub record BodyFine (t : List ℕ) (b : TableBody) : Type 0 where
   pub table : b.table.now ≡ t
-  pub header : b.header ≡ header_of t
   pub well : WellFormed t
   pub entry : b.entry < (header_of t).entries
   pub is : kind_of (entry_at t b.entry).kind ≡ Some Table
-  pub first : b.first ≡ (entry_at t b.entry).first
+  pub rows : b.rows ≡ row_place (header_of t) (entry_at t b.entry).first
   pub known : b.known ≤ (entry_at t b.entry).count
   pub few : b.known ≤ b.count
 

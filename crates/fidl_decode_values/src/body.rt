@@ -13,19 +13,19 @@ ghost use Rattle.fidl_decode_model.specs.Machine.{StateFine, FrameFine, Turns, a
 ghost use Rattle.fidl_decode_values.specs.Reading.{came, message, Holds};
 ghost use Rattle.fidl_decode_values.specs.Ready.{CanReadFrame};
 
-use crate::decoder::Decoder;
+use crate::decoder::{Decoder, row_from};
 use fidl_decode_model::frame::State;
-use fidl_table_format::{EntryKind, Header, Row, read_entry, read_row};
+use fidl_table_format::{EntryKind, Row, read_entry};
 
 /// The envelopes of a table's value, and the rows that its entry has.
 #[derive(Clone, Copy, Drop)]
 pub(crate) struct TableBody<'t> {
-    /// The coding table, and its header.
+    /// The bytes of the coding table.
     pub table: &'t [u8],
-    pub header: Header,
-    /// The entry, the first of its rows, and how many of these are looked at.
+    /// The entry, where the first of its rows stands in these bytes, and how many of them are looked
+    /// at.
     pub entry: u32,
-    pub first: u32,
+    pub rows: usize,
     pub known: u32,
     /// Where the first envelope stands, and how many envelopes there are.
     pub base: usize,
@@ -48,11 +48,11 @@ impl<'t> TableBody<'t> {
     fn row(&self, read: u32) -> Row
         requires body { BodyFine self.now.table.now self.now }
         requires more { read < self.now.known }
-        ensures value { result ≡ row_at self.now.table.now (header_of self.now.table.now)
-            (self.now.first + read) }
+        ensures value { let t = self.now.table.now in
+            result ≡ row_at t (header_of t) ((entry_at t self.now.entry).first + read) }
         ensures entry { result.entry < (header_of self.now.table.now).entries }
     {
-        read_row(self.table, &self.header, self.first + read)
+        row_from(self.table, self.rows + 16 * read as usize)
     }
 
     /// The number of an entry's kind.
@@ -81,9 +81,8 @@ impl<'t, 'm, 's> Decoder<'t, 'm, 's> {
         let parts = self.entry(entry);
         TableBody {
             table: self.coding,
-            header: self.header,
             entry,
-            first: parts.first,
+            rows: self.rows + 16 * parts.first as usize,
             known: count.min(parts.count),
             base,
             count,

@@ -1,31 +1,47 @@
 //! The decoder of one message.
-ghost use Rattle.std.specs.Prelude.{◌≡◌, ◌<◌, ◌≤◌, ℕ, length, slice_index};
+ghost use Rattle.std.specs.Prelude.{◌≡◌, ◌+◌, ◌<◌, ◌≤◌, ℕ, length, slice_index};
 ghost use Rattle.fidl_limits.specs.declared.limits.TheConstants.{MAX_MESSAGE_BYTES};
 ghost use Rattle.fidl_limits.specs.declared.limits.TheConstants.{MAX_MESSAGE_HANDLES};
-ghost use Rattle.fidl_table_format.specs.Section.{header_of};
+ghost use Rattle.fidl_table_format.specs.declared.record.Header.{Header};
+ghost use Rattle.fidl_table_format.specs.Section.{header_of, row_at, row_place};
 ghost use Rattle.fidl_decode_model.specs.Invariants.{IsFine};
 ghost use Rattle.fidl_decode_model.specs.Fine.{fine_prop};
 
 use fidl_links::Links;
-use fidl_table_format::{Entry, Header, Row, read_entry, read_row};
+use fidl_table_format::{Entry, Row, read_entry};
 use fidl_verify::Table;
-use fidl_wire::HandleInfo;
+use fidl_wire::{HandleInfo, u32_at};
 use std::snapshot::Snapshot;
+
+/// The row at a place of a table's bytes: that of any number whose row stands there.
+#[inline(always)]
+pub(crate) fn row_from(coding: &[u8], place: usize) -> Row
+    requires { place + 16 ≤ length coding.now }
+    ensures { (h : Header) (index : ℕ) → row_place h index ≡ place
+        → result ≡ row_at coding.now h index }
+{
+    Row {
+        key: u32_at(coding, place),
+        entry: u32_at(coding, place + 4),
+        name_place: u32_at(coding, place + 8),
+        name_length: u32_at(coding, place + 12),
+    }
+}
 
 /// What never changes: a verified table, and a message within the limits of bytes and of handles.
 /// The bytes stand in the state, with the links. Here clauses alone know them, as they came.
 #[derive(Drop)]
 pub struct Decoder<'t, 'm, 's> {
     pub table: &'t Table<'t>,
-    /// The table's bytes, and its header: rows and entries are read of these.
+    /// The table's bytes, of which entries and rows are read, and where its rows begin.
     pub coding: &'t [u8],
-    pub header: Header,
+    pub rows: usize,
     pub bytes: Snapshot<Links<'m, 's>>,
     /// How many bytes the message has.
     pub size: usize,
     pub handles: &'m [HandleInfo],
     ghost coded: { coding.now ≡ table.now },
-    ghost headed: { header ≡ header_of table.now },
+    ghost placed: { rows ≡ row_place (header_of table.now) 0 },
     ghost octets: { (i : ℕ) → slice_index bytes.value.came i < 256 },
     ghost fine: { IsFine table.now } by { fine_prop table.now },
     ghost short: { length bytes.value.came ≤ MAX_MESSAGE_BYTES },
@@ -59,6 +75,6 @@ impl<'t, 'm, 's> Decoder<'t, 'm, 's> {
     {
         // Read, so that the table is known to be well-formed.
         let _rows = self.table.rows();
-        read_row(self.coding, &self.header, index)
+        row_from(self.coding, self.rows + 16 * index as usize)
     }
 }

@@ -195,3 +195,6 @@ zeros_at-requires-clause-free c =
     let t = c.args.self.now.decoder.table.now in
     let m = message c.args.self.now.decoder in
     over_free t c.args.self.now.decoder.fine m c.args.frame (at_of c.args.state.now) (at_of c.loop-i.state) (c.loop-i.state.steps - c.args.state.now.steps) (going_on c.args.frame (Elements c.args.entry c.args.size (c.args.count - c.loop-i.i)) c.loop-i.done) c.loop-i.invariant.turns c.requires.ready
+
+pub returns-clause-ended : goal.returns-clause-ended
+returns-clause-ended c = on_ok_from c.zeros_at.result (λ z. omega (arith, c.loop-i.invariant.steps)) c.zeros_at.ensures.ok

@@ -5,11 +5,10 @@ use Rattle.fidl_decode_values.proofs.decoder.Decoder.body_of.Goals as goal
 pub returns-clause-fine : goal.returns-clause-fine
 returns-clause-fine c = record {
   table = c.args.self.now.coded;
-  header = c.args.self.now.headed;
   well = c.entry-parts.ensures.well_formed;
   entry = c.requires.entry;
   is = c.requires.kind;
-  first = ap (λ (d : Entry). d.first) c.entry-parts.ensures.value;
+  rows = omega (arith, c.args.self.now.placed, ap (λ (d : Entry). d.first) c.entry-parts.ensures.value);
   known = omega (arith, c.min.ensures, ap (λ (d : Entry). d.count) c.entry-parts.ensures.value);
   few = omega (arith, c.min.ensures);
 }
