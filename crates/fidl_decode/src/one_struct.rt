@@ -53,7 +53,7 @@ impl<'t, 'm, 's> Frames<'t, 'm, 's> {
     /// Reads a struct of leaves, of which the first rows are known to take any bytes but for a
     /// bool.
     #[inline(always)]
-    fn read_past(
+    fn read_struct_of_leaves(
         &self,
         frame: Frame,
         plain: &Plain,
@@ -90,7 +90,7 @@ impl<'t, 'm, 's> Frames<'t, 'm, 's> {
     /// Reads a struct of a vector, as `read_behind` does. A loop over structs of leaves alone has
     /// no code for other structs in it, and nothing is left of one.
     #[inline(always)]
-    pub(crate) fn read_one<const FLAT: bool>(
+    pub(crate) fn read_struct_element<const FLAT: bool>(
         &self,
         frame: Frame,
         plain: &Plain,
@@ -123,7 +123,7 @@ impl<'t, 'm, 's> Frames<'t, 'm, 's> {
             frame (at_of state.old)) }
     {
         if FLAT {
-            self.read_past(frame, plain, state)?;
+            self.read_struct_of_leaves(frame, plain, state)?;
             return Ok(None);
         }
         self.read_behind(frame, plain, known, state)

@@ -83,7 +83,7 @@ impl<'t, 'm, 's> Frames<'t, 'm, 's> {
                 in_envelope: frame.in_envelope,
             };
             state.steps += 1;
-            let found = self.read_one::<FLAT>(below, &plain, &known, state)?;
+            let found = self.read_struct_element::<FLAT>(below, &plain, &known, state)?;
             done += size;
             if let Some(inner) = found {
                 return Ok(Turn {

@@ -34,24 +34,24 @@ plain_below-known-requires g c =
     let within = (fine_as t c.args.self.now.decoder.fine c.args.entry Struct c.requires.entry c.requires.kind).content.0 in
     record { within = subst (λ (d : Entry). d.first + d.count ≤ (header_of t).rows) (sym c.entry-e.ensures.value) within }
 
-pub read_one-requires-clause-frame : goal.read_one-requires-clause-frame
-read_one-requires-clause-frame g c =
+pub read_struct_element-requires-clause-frame : goal.read_struct_element-requires-clause-frame
+read_struct_element-requires-clause-frame g c =
     let so_far = c.loop-i.invariant.steps in
     let taken = struct_taken c.args.self.now.decoder.table.now c.args.self.now.decoder.fine (message c.args.self.now.decoder) c.args.frame (at_of c.args.state.now) (at_of c.loop-i.state) (c.loop-i.state.steps - c.args.state.now.steps)
     c.args.entry c.args.size c.args.count c.loop-i.i c.loop-i.done c.loop-i.invariant.turns c.loop-i-test.true
     c.entry-e.result c.entry-e.ensures.value c.requires.entry c.requires.kind c.requires.frame (c.loop-i.state.steps + 1 - c.args.state.now.steps) (omega (arith, so_far)) in
     taken.below_fine.0
 
-pub read_one-requires-clause-state : goal.read_one-requires-clause-state
-read_one-requires-clause-state g c =
+pub read_struct_element-requires-clause-state : goal.read_struct_element-requires-clause-state
+read_struct_element-requires-clause-state g c =
     let so_far = c.loop-i.invariant.steps in
     let taken = struct_taken c.args.self.now.decoder.table.now c.args.self.now.decoder.fine (message c.args.self.now.decoder) c.args.frame (at_of c.args.state.now) (at_of c.loop-i.state) (c.loop-i.state.steps - c.args.state.now.steps)
     c.args.entry c.args.size c.args.count c.loop-i.i c.loop-i.done c.loop-i.invariant.turns c.loop-i-test.true
     c.entry-e.result c.entry-e.ensures.value c.requires.entry c.requires.kind c.requires.frame (c.loop-i.state.steps + 1 - c.args.state.now.steps) (omega (arith, so_far)) in
     taken.state
 
-pub read_one-requires-clause-budget : goal.read_one-requires-clause-budget
-read_one-requires-clause-budget g c =
+pub read_struct_element-requires-clause-budget : goal.read_struct_element-requires-clause-budget
+read_struct_element-requires-clause-budget g c =
     let so_far = c.loop-i.invariant.steps in
     let taken = struct_taken c.args.self.now.decoder.table.now c.args.self.now.decoder.fine (message c.args.self.now.decoder) c.args.frame (at_of c.args.state.now) (at_of c.loop-i.state) (c.loop-i.state.steps - c.args.state.now.steps)
     c.args.entry c.args.size c.args.count c.loop-i.i c.loop-i.done c.loop-i.invariant.turns c.loop-i-test.true
@@ -83,12 +83,12 @@ returns-in-Some-clause-ok g c =
     let on = c.in_ok-found.ensures.grows in
     let read = subst (λ (o : Option Frame). Turns c.args.self.now.decoder.table.now (message c.args.self.now.decoder)
     (struct_frame c.entry-e.result (c.args.frame.base + c.loop-i.done) c.args.frame.depth c.args.frame.in_envelope) (at_of c.loop-i.state)
-    (at_of c.read_one.new.state) (c.read_one.new.state.steps - (c.loop-i.state.steps + 1)) (left_over o)) c.in-Some.is
+    (at_of c.read_struct_element.new.state) (c.read_struct_element.new.state.steps - (c.loop-i.state.steps + 1)) (left_over o)) c.in-Some.is
     c.in_ok-found.ensures.ok in
     turns_below c.args.self.now.decoder.table.now (message c.args.self.now.decoder) c.args.frame (at_of c.args.state.now) (at_of c.loop-i.state)
     (c.loop-i.state.steps + 1 - c.args.state.now.steps) (struct_frame c.entry-e.result (c.args.frame.base + c.loop-i.done) c.args.frame.depth
     c.args.frame.in_envelope) (going_on (going_on c.args.frame (Elements c.args.entry c.args.size (c.args.count - c.loop-i.i)) c.loop-i.done)
-    (Elements c.args.entry c.args.size (c.args.count - (c.loop-i.i + 1))) (c.loop-i.done + c.args.size)) taken (at_of c.read_one.new.state) _ _
+    (Elements c.args.entry c.args.size (c.args.count - (c.loop-i.i + 1))) (c.loop-i.done + c.args.size)) taken (at_of c.read_struct_element.new.state) _ _
     (Some c.in-Some.inner) (omega (arith, so_far, on)) read
 
 pub loop-i-preserved : goal.loop-i-preserved
@@ -100,15 +100,15 @@ loop-i-preserved g c =
     let on = c.in_ok-found.ensures.grows in
     let read = subst (λ (o : Option Frame). Turns c.args.self.now.decoder.table.now (message c.args.self.now.decoder)
     (struct_frame c.entry-e.result (c.args.frame.base + c.loop-i.done) c.args.frame.depth c.args.frame.in_envelope) (at_of c.loop-i.state)
-    (at_of c.read_one.new.state) (c.read_one.new.state.steps - (c.loop-i.state.steps + 1)) (left_over o)) c.in_default.is
+    (at_of c.read_struct_element.new.state) (c.read_struct_element.new.state.steps - (c.loop-i.state.steps + 1)) (left_over o)) c.in_default.is
     c.in_ok-found.ensures.ok in
     record {
-      holds = c.read_one.ensures.holds;
+      holds = c.read_struct_element.ensures.holds;
       turns = turns_over c.args.self.now.decoder.table.now (message c.args.self.now.decoder) c.args.frame
           (at_of c.args.state.now) (at_of c.loop-i.state) (c.loop-i.state.steps + 1 - c.args.state.now.steps)
           (struct_frame c.entry-e.result (c.args.frame.base + c.loop-i.done) c.args.frame.depth c.args.frame.in_envelope)
           (going_on (going_on c.args.frame (Elements c.args.entry c.args.size (c.args.count - c.loop-i.i)) c.loop-i.done)
-          (Elements c.args.entry c.args.size (c.args.count - (c.loop-i.i + 1))) (c.loop-i.done + c.args.size)) taken (at_of c.read_one.new.state) _ _
+          (Elements c.args.entry c.args.size (c.args.count - (c.loop-i.i + 1))) (c.loop-i.done + c.args.size)) taken (at_of c.read_struct_element.new.state) _ _
           (omega (arith, so_far, on)) read;
       steps = omega (arith, so_far, on);
     }
@@ -195,8 +195,8 @@ returns-in_err-zeros_at-clause-fault_is_true g c =
     (going_on c.args.frame (Elements c.args.entry c.args.size (c.args.count - c.loop-i.i)) c.loop-i.done) c.loop-i.invariant.turns over tt _
     c.in_err-zeros_at.ensures.fault_is_true)
 
-pub read_one-requires-clause-ready : goal.read_one-requires-clause-ready
-read_one-requires-clause-ready g c =
+pub read_struct_element-requires-clause-ready : goal.read_struct_element-requires-clause-ready
+read_struct_element-requires-clause-ready g c =
     let so_far = c.loop-i.invariant.steps in
     let taken = struct_taken c.args.self.now.decoder.table.now c.args.self.now.decoder.fine (message c.args.self.now.decoder) c.args.frame (at_of c.args.state.now) (at_of c.loop-i.state) (c.loop-i.state.steps - c.args.state.now.steps)
     c.args.entry c.args.size c.args.count c.loop-i.i c.loop-i.done c.loop-i.invariant.turns c.loop-i-test.true
@@ -228,12 +228,12 @@ overflow_cast-result-in-Some g c =
     c.args.entry c.args.size c.args.count c.loop-i.i c.loop-i.done c.loop-i.invariant.turns c.loop-i-test.true in
     record { fits = omega (arith, room.1, room.2, c.args.self.now.decoder.short) }
 
-pub read_one-requires-clause-leaves : goal.read_one-requires-clause-leaves
-read_one-requires-clause-leaves g c =
+pub read_struct_element-requires-clause-leaves : goal.read_struct_element-requires-clause-leaves
+read_struct_element-requires-clause-leaves g c =
     λ so. subst (λ (d : Entry). AreLeaves c.args.self.now.decoder.table.now d.first d.count) (sym c.entry-e.ensures.value) (c.requires.leaves so)
 
-pub read_one-requires-clause-behind : goal.read_one-requires-clause-behind
-read_one-requires-clause-behind g c =
+pub read_struct_element-requires-clause-behind : goal.read_struct_element-requires-clause-behind
+read_struct_element-requires-clause-behind g c =
     let plain = c.plain_rows-plain.ensures in
     λ so i from below.
     let all = subst (λ (d : Entry). AreLeaves c.args.self.now.decoder.table.now d.first d.count) (sym c.entry-e.ensures.value) (c.requires.leaves so) in

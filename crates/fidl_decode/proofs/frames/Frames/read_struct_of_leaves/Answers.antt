@@ -8,7 +8,7 @@ use Rattle.fidl_decode_model.proofs.Turning.{on_ok_from}
 use Rattle.fidl_decode_columns.proofs.Leaves.{left_over, turns_then, turns_break}
 use Rattle.fidl_decode.specs.Over.{AreRowsOfLeaves}
 use Rattle.fidl_decode_values.proofs.Fitting.{one_more}
-use Rattle.fidl_decode.proofs.frames.Frames.read_past.Goals as goal
+use Rattle.fidl_decode.proofs.frames.Frames.read_struct_of_leaves.Goals as goal
 
 pub read_fields-requires-clause-leaves : goal.read_fields-requires-clause-leaves
 read_fields-requires-clause-leaves c =
