@@ -13,17 +13,18 @@ use Rattle.fidl_table_format.specs.Section.{header_of, entry_at}
 use Rattle.fidl_table_format.specs.Terms.{declarations_of}
 use Rattle.fidl_decode_model.specs.Invariants.{IsFine, is_free, is_free_at, is_leaf}
 use Rattle.fidl_decode_model.specs.declared.frame.Frame.{Frame}
+use Rattle.fidl_decode_model.specs.declared.frame.Remaining.{Remaining}
 use Rattle.fidl_decode_model.specs.declared.frame.Remaining.TheVariants.{Elements}
 use Rattle.fidl_decode_model.specs.State.{Message, Position}
 use Rattle.fidl_wire.specs.Encoding.{zeros}
 use Rattle.fidl_wire.specs.Standing.{Stands}
 use Rattle.fidl_decode_model.specs.declared.fault.DecodeFault.{DecodeFault}
 use Rattle.fidl_decode_model.specs.Breaks.{IsPadding}
-use Rattle.fidl_decode_model.specs.Machine.{StateFine, FrameFine, Visits, Turns, BreaksFrame}
+use Rattle.fidl_decode_model.specs.Machine.{StateFine, FrameFine, Visits, Turns, BreaksFrame, IsPlain, rows_left}
 use Rattle.fidl_decode_values.proofs.Unchanged.{no_true}
 use Rattle.fidl_decode_model.proofs.Visiting.{size_is, figure_is, fine_as}
 use Rattle.fidl_decode_model.proofs.Holding.{array_frame, visits_array, array_fine}
-use Rattle.fidl_decode_columns.proofs.Leaves.{going_on, left_over, free_turns, over_turns, over_breaks, over_room, no_zeros}
+use Rattle.fidl_decode_columns.proofs.Leaves.{going_on, left_over, free_turns, over_turns, over_breaks, over_room, no_zeros, turns_stay}
 use Rattle.fidl_decode_columns.proofs.Wholly.{visits_over}
 
 -- an entry that any bytes are a value of has a kind of which this holds
@@ -96,3 +97,9 @@ module _ (t : List ℕ) (fine : IsFine t) (m : Message) (f : Frame) (old : Posit
 
   pub elements_break : (fault : DecodeFault) → IsPadding m.bytes (f.base + f.done + size * count) (f.base + f.size) fault → BreaksFrame t m f old fault
   elements_break fault p = over_breaks t fine m f old old 0 over turns refl tt fault (subst (λ k. IsPadding m.bytes k (f.base + f.size) fault) there p)
+
+-- nothing is left of a vector without elements
+pub visits_no_elements : (t : List ℕ) (fine : IsFine t) (m : Message) (held e place : ℕ) (old mid : Position) (spent : ℕ) (f : Frame) → Visits t m held e place old mid spent (Some f) → FrameFine t m.bytes f → (inner size : ℕ) → f.left ≡ Elements inner size 0 → f.size ≡ f.done
+    → Visits t m held e place old mid spent None
+visits_no_elements t fine m held e place old mid spent f v ff inner size is whole =
+    visits_over t m held e place old mid spent f v mid 0 spent (omega arith) (over_turns t fine m f mid mid 0 f (turns_stay t m f mid ff v.state 0 refl) (ap (rows_left t f.done) is) (subst IsPlain (sym is) tt) 0 (omega arith) (omega arith) (no_zeros m.bytes (f.base + f.done) _ (omega (arith, whole))))

@@ -26,7 +26,7 @@ use fidl_wire::MAX_DEPTH;
 
 impl<'t, 'm, 's> Decoder<'t, 'm, 's> {
     /// Reads the count and the marker of a vector at a place, and links its elements, which are
-    /// left to read.
+    /// left to read where there are any.
     #[inline(always)]
     pub(crate) fn read_vector(
         &self,
@@ -95,6 +95,9 @@ impl<'t, 'm, 's> Decoder<'t, 'm, 's> {
         }
         state.links.link_marker(place + 8, from);
         state.next = from + size;
+        if count == 0 {
+            return Ok(None);
+        }
         let left = Remaining::Elements {
             entry: e.first,
             size: each as u32,

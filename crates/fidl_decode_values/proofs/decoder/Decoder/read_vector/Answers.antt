@@ -1,8 +1,9 @@
 use Rattle.fidl_decode_values.specs.Reading.{message}
 use Rattle.fidl_decode_values.proofs.Unchanged.{clash, size_short, size_fits, size_room}
 use Rattle.fidl_decode_values.proofs.Fitting.{front, apart, inside, small, ended, deeper, some_8}
-use Rattle.std.proofs.Common.{◌≡◌, ℕ, ◌+◌, ◌-◌, ◌*◌, ◌<◌, refl, sym, ap, subst, ◌∙◌, arith, inl, inr, length}
-use Rattle.std.specs.Prelude.{Option, Some}
+use Rattle.std.proofs.Common.{◌≡◌, ℕ, ◌+◌, ◌-◌, ◌*◌, ◌<◌, ◌≤◌, refl, sym, ap, subst, ◌∙◌, arith, inl, inr, length}
+use Rattle.std.specs.Prelude.{Option, Some, None}
+use Rattle.fidl_limits.specs.declared.limits.TheConstants.{MAX_DEPTH}
 use Rattle.std.specs.Int.{next_multiple_of}
 use Rattle.fidl_table_format.specs.declared.record.Entry.{Entry}
 use Rattle.fidl_table_format.specs.declared.kind.EntryKind.TheVariants.{Vector}
@@ -17,6 +18,7 @@ use Rattle.fidl_decode_model.proofs.Visiting.{fine_as}
 use Rattle.fidl_decode_model.proofs.Listed.{count_fits, visits_absent_vector, visits_vector, vector_fine}
 use Rattle.fidl_decode_values.proofs.ReadyPlaces.{first_free, last_free}
 use Rattle.fidl_decode_values.proofs.Linking.{marker_at}
+use Rattle.fidl_decode_values.proofs.Sequences.{visits_no_elements}
 use Rattle.fidl_decode_values.proofs.decoder.Decoder.read_vector.Goals as goal
 
 pub returns-then-not-is_present-clause-ok : goal.returns-then-not-is_present-clause-ok
@@ -67,6 +69,32 @@ returns-clause-ok c =
     (omega (arith, value, (size_fits c.args.self.now.sized _ _ c.if-size-rest.false))) (omega (arith, c.requires.room)) (λ i. omega (arith, c.args.self.now.octets i)) in
     subst (λ (s : Position). Visits t m c.args.depth c.args.entry c.args.place old s (c.args.state.now.steps - c.args.state.now.steps) (frame c.entry-e.result c.entry-element.result c.u64_at-count.result c.next_multiple_of-size.result)) same
     (subst (λ (o : Option Frame). Visits t m c.args.depth c.args.entry c.args.place old (linked (c.args.place + 8) (inner.size * n) old) (c.args.state.now.steps - c.args.state.now.steps) o) found opened)
+
+pub returns-then-count-eq0-clause-ok : goal.returns-then-count-eq0-clause-ok
+returns-then-count-eq0-clause-ok c =
+    let t = c.args.self.now.table.now in
+    let m = message c.args.self.now in
+    let old = at_of c.args.state.now in
+    let d = entry_at t c.args.entry in
+    let inner = entry_at t d.first in
+    let n = count_at c.args.self.now.bytes.value.came c.args.place in
+    let holder : c.entry-e.result ≡ d = c.entry-e.ensures.value in
+    let element : c.entry-element.result ≡ inner = c.entry-element.ensures.value ∙ ap (λ (d : Entry). entry_at t d.first) holder in
+    let number : c.u64_at-count.result ≡ n = c.u64_at-count.ensures in
+    let none : n ≡ 0 = sym number ∙ c.if-count-eq0.true in
+    let bound : c.entry-e.result.bound ≡ d.bound = ap (λ (d : Entry). d.bound) holder in
+    let value : c.next_multiple_of-size.result ≡ next_multiple_of (inner.size * n) 8 = c.next_multiple_of-size.ensures.value ∙ (λ i. next_multiple_of ((element i).size * number i) 8) in
+    let empty : inner.size * n ≡ 0 = (λ i. inner.size * none i) ∙ omega arith in
+    let same : linked (c.args.place + 8) (inner.size * n) old ≡ record { next = old.next + c.next_multiple_of-size.result; handle = old.handle; objects = c.link_marker.new.self.objects; records = c.link_marker.new.self.records }
+    = λ i. record { next = old.next + sym value i; handle = old.handle; objects = sym c.link_marker.ensures.objects i; records = sym c.link_marker.ensures.records i } in
+    let fits : next_multiple_of (inner.size * n) 8 ≤ length m.bytes - old.next = omega (arith, value, (size_fits c.args.self.now.sized _ _ c.if-size-rest.false)) in
+    let less : c.args.depth < MAX_DEPTH = omega (arith, c.requires.depth, c.if-depth-eq-MAX_DEPTH.false) in
+    let opened = visits_vector t c.args.self.now.fine m c.args.depth c.args.entry c.args.place old c.requires.entry c.requires.kind c.requires.state
+    c.requires.depth (c.args.state.now.steps - c.args.state.now.steps) (omega arith) (c.is_present.ensures.0 c.if-not-is_present.false)
+    less (omega (arith, number, bound, c.if-count-e.false)) fits (omega (arith, c.requires.room)) (λ i. omega (arith, c.args.self.now.octets i)) in
+    let few = vector_fine t c.args.self.now.fine m c.args.depth c.args.entry c.args.place old c.requires.entry c.requires.kind c.requires.state c.requires.depth less fits 0 (omega arith) in
+    subst (λ (s : Position). Visits t m c.args.depth c.args.entry c.args.place old s (c.args.state.now.steps - c.args.state.now.steps) None) same
+    (visits_no_elements t c.args.self.now.fine m c.args.depth c.args.entry c.args.place old (linked (c.args.place + 8) (inner.size * n) old) (c.args.state.now.steps - c.args.state.now.steps) _ opened few.0 d.first inner.size (λ i. Elements d.first inner.size (none i)) (ap (λ k. next_multiple_of k 8) empty))
 
 pub returns-clause-fine : goal.returns-clause-fine
 returns-clause-fine c around few =
