@@ -1,6 +1,6 @@
 -- The last object that a frame holds takes the frame's place.
 use Rattle.std.proofs.Common.{◌≡◌, ℕ, ◌+◌, ◌-◌, List, [], refl, sym, ap, subst, arith, inl, inr}
-use Rattle.std.specs.Prelude.{Some}
+use Rattle.std.specs.Prelude.{Some, None}
 use Rattle.fidl_wire.specs.Figure.{Declarations}
 use Rattle.fidl_table_format.specs.Section.{header_of}
 use Rattle.fidl_table_format.specs.Terms.{declarations_of}
@@ -16,7 +16,7 @@ use Rattle.fidl_decode_model.specs.Worth.{ReadsWorth, MembersWorth}
 use Rattle.fidl_decode.specs.Over.{NoRows, IsOver}
 use Rattle.fidl_decode_model.proofs.Rows.{members_end, worth_none}
 use Rattle.fidl_decode_model.proofs.Turning.{plain_reads, plain_worth, raised}
-use Rattle.fidl_decode_columns.proofs.Leaves.{left_over, no_zeros}
+use Rattle.fidl_decode_columns.proofs.Leaves.{left_over, no_zeros, over_turns}
 
 no_rows_plain : (left : Remaining) → NoRows left → IsPlain left
 no_rows_plain (Rows first count) none = tt
@@ -67,3 +67,8 @@ module _ (t : List ℕ) (fine : IsFine t) (m : Message) (f g h : Frame) (old new
     rest_fine = (one.below_fine.0, omega (arith, one.below_fine.1));
     less = omega (arith, one.less);
   }
+
+-- a frame of which all is read is over
+pub turns_done : (t : List ℕ) (fine : IsFine t) (m : Message) (f h : Frame) (old new : Position) (steps : ℕ) → Turns t m f old new steps (left_over (Some h)) → IsOver h → Turns t m f old new steps (left_over None)
+turns_done t fine m f h old new steps turns over =
+    over_turns t fine m f old new steps h turns (no_rows_left t h.done h.left over.0) (no_rows_plain h.left over.0) steps (omega arith) (omega arith) (no_zeros m.bytes (h.base + h.done) _ (omega (arith, over.1)))

@@ -317,14 +317,20 @@ impl<'t, 'm, 's> Frames<'t, 'm, 's> {
             let Some(after) = turn.rest else {
                 return Ok(turn);
             };
+            if is_over(&after) {
+                let Some(below) = turn.below else {
+                    return Ok(Turn {
+                        below: None,
+                        rest: None,
+                    });
+                };
+                rest = below;
+                continue;
+            }
             let Some(below) = turn.below else {
                 rest = after;
                 continue;
             };
-            if is_over(&after) {
-                rest = below;
-                continue;
-            }
             let Some(inner) = self.read_leaves(below, state)? else {
                 rest = after;
                 continue;
