@@ -101,4 +101,6 @@ module _ (t : List ℕ) (fine : IsFine t) (m : Message) (f : Frame) (old : Posit
 pub visits_no_elements : (t : List ℕ) (fine : IsFine t) (m : Message) (held e place : ℕ) (old mid : Position) (spent : ℕ) (f : Frame) → Visits t m held e place old mid spent (Some f) → FrameFine t m.bytes f → (inner size : ℕ) → f.left ≡ Elements inner size 0 → f.size ≡ f.done
     → Visits t m held e place old mid spent None
 visits_no_elements t fine m held e place old mid spent f v ff inner size is whole =
-    visits_over t m held e place old mid spent f v mid 0 spent (omega arith) (over_turns t fine m f mid mid 0 f (turns_stay t m f mid ff v.state 0 refl) (ap (rows_left t f.done) is) (subst IsPlain (sym is) tt) 0 (omega arith) (omega arith) (no_zeros m.bytes (f.base + f.done) _ (omega (arith, whole))))
+    let stay = turns_stay t m f mid ff v.state 0 refl in
+    let zeros = no_zeros m.bytes (f.base + f.done) _ (omega (arith, whole)) in
+    visits_over t m held e place old mid spent f v mid 0 spent (omega arith) (over_turns t fine m f mid mid 0 f stay (ap (rows_left t f.done) is) (subst IsPlain (sym is) tt) 0 (omega arith) (omega arith) zeros)

@@ -365,7 +365,8 @@ returns-in_err-inner-clause-fault_is_true c =
     let turn : c.in_ok-turn.turn ≡ record { below = Some c.in-Some-below-2.below; rest = Some c.in-Some-rest.after } = λ i. record { below = c.in-Some-below-2.is i; rest = c.in-Some-rest.is i } in
     let both = subst (λ (x : Turn). Turns c.args.self.now.decoder.table.now (message c.args.self.now.decoder) c.args.frame (at_of c.args.state.now) (at_of c.take_member.new.state) (c.take_member.new.state.steps - c.args.state.now.steps) x) turn read in
     passed_on c.from_residual-in_err-inner.result c.in_err-inner.field-0.0 _ c.from_residual-in_err-inner.ensures.1
-    (below_breaks c.args.self.now.decoder.table.now (message c.args.self.now.decoder) c.args.frame (at_of c.args.state.now) (at_of c.take_member.new.state) (c.take_member.new.state.steps - c.args.state.now.steps) c.in-Some-below-2.below c.in-Some-rest.after both _ c.in_err-inner.ensures.fault_is_true)
+    (below_breaks c.args.self.now.decoder.table.now (message c.args.self.now.decoder) c.args.frame (at_of c.args.state.now) (at_of c.take_member.new.state) (c.take_member.new.state.steps - c.args.state.now.steps)
+    c.in-Some-below-2.below c.in-Some-rest.after both _ c.in_err-inner.ensures.fault_is_true)
 
 pub read_leaves-requires-in-loop-now-clause-ready : goal.read_leaves-requires-in-loop-now-clause-ready
 read_leaves-requires-in-loop-now-clause-ready c =

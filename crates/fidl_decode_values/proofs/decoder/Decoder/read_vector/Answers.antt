@@ -94,7 +94,8 @@ returns-then-count-eq0-clause-ok c =
     less (omega (arith, number, bound, c.if-count-e.false)) fits (omega (arith, c.requires.room)) (λ i. omega (arith, c.args.self.now.octets i)) in
     let few = vector_fine t c.args.self.now.fine m c.args.depth c.args.entry c.args.place old c.requires.entry c.requires.kind c.requires.state c.requires.depth less fits 0 (omega arith) in
     subst (λ (s : Position). Visits t m c.args.depth c.args.entry c.args.place old s (c.args.state.now.steps - c.args.state.now.steps) None) same
-    (visits_no_elements t c.args.self.now.fine m c.args.depth c.args.entry c.args.place old (linked (c.args.place + 8) (inner.size * n) old) (c.args.state.now.steps - c.args.state.now.steps) _ opened few.0 d.first inner.size (λ i. Elements d.first inner.size (none i)) (ap (λ k. next_multiple_of k 8) empty))
+    (visits_no_elements t c.args.self.now.fine m c.args.depth c.args.entry c.args.place old (linked (c.args.place + 8) (inner.size * n) old) (c.args.state.now.steps - c.args.state.now.steps) _ opened few.0
+    d.first inner.size (λ i. Elements d.first inner.size (none i)) (ap (λ k. next_multiple_of k 8) empty))
 
 pub returns-clause-fine : goal.returns-clause-fine
 returns-clause-fine c around few =
