@@ -249,7 +249,7 @@ impl<'t, 'm, 's> Decoder<'t, 'm, 's> {
         }
     }
 
-    /// Passes over the next envelopes: those with members of one entry, or one that is absent;
+    /// Passes over the next envelopes: one that is absent, or those with members of one entry;
     /// answers how many are read then. The steps, one for each, are not counted yet.
     #[inline(always)]
     fn pass_some(&self, body: &TableBody<'_>, from: u32, state: &mut State<'_, '_>) -> u32
@@ -271,11 +271,10 @@ impl<'t, 'm, 's> Decoder<'t, 'm, 's> {
         ensures grows { state.old.steps ≤ state.new.steps }
         ensures pays { state.new.steps + state.old.next ≤ state.old.steps + state.new.next }
     {
-        let read = self.pass_alike(body, from, state);
-        if read == from && self.is_absent(body.base + 8 * from as usize, state) {
+        if self.is_absent(body.base + 8 * from as usize, state) {
             return from + 1;
         }
-        read
+        self.pass_alike(body, from, state)
     }
 
     /// Passes over the first envelopes of a table's value, and answers how many are read then.

@@ -1,4 +1,4 @@
-use Rattle.std.proofs.Common.{◌≡◌, ◌+◌, ◌<◌, length, sym, ap, subst, ◌∙◌, arith}
+use Rattle.std.proofs.Common.{◌≡◌, ◌+◌, ◌<◌, length, sym, subst, arith}
 use Rattle.fidl_table_format.specs.declared.record.Row.{Row}
 use Rattle.fidl_table_format.specs.Section.{header_of, entry_at, row_at}
 use Rattle.fidl_decode_values.proofs.BodyTurns.{row_lies, row_names, row_fits}
