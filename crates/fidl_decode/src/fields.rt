@@ -242,4 +242,49 @@ impl<'t, 'm, 's> Frames<'t, 'm, 's> {
             Remaining::Envelopes { .. } => Ok(Some(frame)),
         }
     }
+
+    /// Reads leaves as `read_leaves` does. Where a member that is none comes first, nothing is called.
+    #[inline(always)]
+    pub(crate) fn read_next_leaves(
+        &self,
+        frame: Frame,
+        state: &mut State<'_, '_>,
+    ) -> Result<Option<Frame>, DecodeFault>
+        requires frame { FrameFine (table self.now) (came self.now) frame }
+        requires holds { Holds self.now state.old }
+        requires state { StateFine (message self.now) (at_of state.old) }
+        requires ready { CanReadFrame self.now state.old frame }
+        requires budget { state.old.steps + turn_work (came self.now) state.old.next frame < 2 ^ 40 }
+        ensures holds { Holds self.now state.new }
+        ensures ok { IfOk result
+            (λ rest. Turns (table self.now) (message self.now)
+            frame (at_of state.old) (at_of state.new) (state.new.steps - state.old.steps)
+            (record { below = None; rest = rest })) }
+        ensures grows { OnOk result (state.old.steps ≤ state.new.steps) }
+        ensures ended { IfOk result (λ rest. IfNone rest (state.old.steps < state.new.steps)) }
+        ensures cost { state.new.steps ≤ state.old.steps + turn_work (came self.now) state.old.next
+            frame }
+        ensures fault_is_true { IfErr result (BreaksFrame (table self.now) (message self.now)
+            frame (at_of state.old)) }
+    {
+        let none = match frame.left {
+            Remaining::Rows { first, count } => {
+                count != 0
+                    && self
+                        .decoder
+                        .leaf_kind(self.decoder.row(first).entry)
+                        .is_none()
+                    && !self.ends_in_box(first, count, frame.size as usize)
+            }
+            Remaining::Elements { entry, count, .. } => {
+                count == 0 || self.decoder.leaf_kind(entry).is_none()
+            }
+            Remaining::Envelopes { .. } => true,
+            Remaining::Content { .. } => false,
+        };
+        if none {
+            return Ok(Some(frame));
+        }
+        self.read_leaves(frame, state)
+    }
 }

@@ -21,7 +21,7 @@ const BOX: u8 = 15;
 impl<'t, 'm, 's> Frames<'t, 'm, 's> {
     /// Whether a row is the last of a struct of this size, and a box behind which nothing is left.
     #[inline(always)]
-    fn ends_in_box(&self, first: u32, count: u32, size: usize) -> bool
+    pub(crate) fn ends_in_box(&self, first: u32, count: u32, size: usize) -> bool
         requires within { first + count ≤ (header_of (table self.now)).rows }
         ensures { let row = row_at (table self.now) (header_of (table self.now)) first in
             IsTrue result → (count ≡ 1)

@@ -147,8 +147,8 @@ impl<'t, 'm, 's> Frames<'t, 'm, 's> {
         self.read_structs::<true>(frame, entry, size, count, state)
     }
 
-    /// Checks the structs of an array or vector member by member, where no struct is read yet and
-    /// their members are numbers alone. Else nothing is read.
+    /// Checks the structs of an array or vector member by member, where their members are numbers
+    /// alone. Else nothing is read.
     #[inline(never)]
     fn check_columns(
         &self,
@@ -179,10 +179,6 @@ impl<'t, 'm, 's> Frames<'t, 'm, 's> {
         ensures fault_is_true { IfErr result (BreaksFrame (table self.now) (message self.now)
             frame (at_of state.old)) }
     {
-        // Structs of numbers are read whole, so none is left to go on with.
-        if frame.done != 0 {
-            return Ok(false);
-        }
         let columns = Columns {
             table: self.decoder.table,
             links: &state.links,
@@ -236,7 +232,11 @@ impl<'t, 'm, 's> Frames<'t, 'm, 's> {
         ensures fault_is_true { IfErr result (BreaksFrame (table self.now) (message self.now)
             frame (at_of state.old)) }
     {
-        if count > FEW_STRUCTS && self.check_columns(frame, entry, size, count, state)? {
+        // Structs of numbers are read whole, so none is left to go on with.
+        if frame.done == 0
+            && count > FEW_STRUCTS
+            && self.check_columns(frame, entry, size, count, state)?
+        {
             return Ok(Turn {
                 below: None,
                 rest: None,
@@ -307,7 +307,7 @@ impl<'t, 'm, 's> Frames<'t, 'm, 's> {
     {
         let mut rest = frame;
         loop {
-            let Some(now) = self.read_leaves(rest, state)? else {
+            let Some(now) = self.read_next_leaves(rest, state)? else {
                 return Ok(Turn {
                     below: None,
                     rest: None,
@@ -331,7 +331,7 @@ impl<'t, 'm, 's> Frames<'t, 'm, 's> {
                 rest = after;
                 continue;
             };
-            let Some(inner) = self.read_leaves(below, state)? else {
+            let Some(inner) = self.read_next_leaves(below, state)? else {
                 rest = after;
                 continue;
             };

@@ -22,16 +22,16 @@ loop-now-init c =
       steps = omega arith;
     }
 
-pub read_leaves-requires-clause-frame : goal.read_leaves-requires-clause-frame
-read_leaves-requires-clause-frame c =
+pub read_next_leaves-requires-clause-frame : goal.read_next_leaves-requires-clause-frame
+read_next_leaves-requires-clause-frame c =
     c.loop-now.invariant.turns.rest_fine.0
 
-pub read_leaves-requires-clause-state : goal.read_leaves-requires-clause-state
-read_leaves-requires-clause-state c =
+pub read_next_leaves-requires-clause-state : goal.read_next_leaves-requires-clause-state
+read_next_leaves-requires-clause-state c =
     c.loop-now.invariant.turns.state
 
-pub read_leaves-requires-clause-budget : goal.read_leaves-requires-clause-budget
-read_leaves-requires-clause-budget c =
+pub read_next_leaves-requires-clause-budget : goal.read_next_leaves-requires-clause-budget
+read_next_leaves-requires-clause-budget c =
     let so_far = c.loop-now.invariant.steps in
     let less = c.loop-now.invariant.turns.less in
     omega (arith, less, so_far, c.requires.budget)
@@ -46,18 +46,18 @@ pub returns-in_default-clause-ok : goal.returns-in_default-clause-ok
 returns-in_default-clause-ok c =
     let so_far = c.loop-now.invariant.steps in
     let grows = c.in_ok-now.ensures.grows in
-    let two = subst (λ (o : Option Frame). Turns c.args.self.now.decoder.table.now (message c.args.self.now.decoder) c.loop-now.rest (at_of c.loop-now.state) (at_of c.read_leaves.new.state)
-    (c.read_leaves.new.state.steps - c.loop-now.state.steps) (left_over o)) c.in_default.is c.in_ok-now.ensures.ok in
-    let held : Turns c.args.self.now.decoder.table.now (message c.args.self.now.decoder) c.args.frame (at_of c.args.state.now) (at_of c.read_leaves.new.state)
-    (c.read_leaves.new.state.steps - c.args.state.now.steps) (left_over None) = turns_then c.args.self.now.decoder.table.now (message c.args.self.now.decoder)
+    let two = subst (λ (o : Option Frame). Turns c.args.self.now.decoder.table.now (message c.args.self.now.decoder) c.loop-now.rest (at_of c.loop-now.state) (at_of c.read_next_leaves.new.state)
+    (c.read_next_leaves.new.state.steps - c.loop-now.state.steps) (left_over o)) c.in_default.is c.in_ok-now.ensures.ok in
+    let held : Turns c.args.self.now.decoder.table.now (message c.args.self.now.decoder) c.args.frame (at_of c.args.state.now) (at_of c.read_next_leaves.new.state)
+    (c.read_next_leaves.new.state.steps - c.args.state.now.steps) (left_over None) = turns_then c.args.self.now.decoder.table.now (message c.args.self.now.decoder)
     c.args.frame (at_of c.args.state.now) (at_of c.loop-now.state) (c.loop-now.state.steps - c.args.state.now.steps) c.loop-now.rest
-    c.loop-now.invariant.turns (at_of c.read_leaves.new.state) _ _ (left_over None) (omega (arith, so_far, grows)) two in
+    c.loop-now.invariant.turns (at_of c.read_next_leaves.new.state) _ _ (left_over None) (omega (arith, so_far, grows)) two in
     held
 
 pub returns-in_default-clause-rises : goal.returns-in_default-clause-rises
 returns-in_default-clause-rises c =
     let so_far = c.loop-now.invariant.steps in
-    let ended : c.loop-now.state.steps < c.read_leaves.new.state.steps = subst (λ (o : Option Frame). IfNone o (c.loop-now.state.steps < c.read_leaves.new.state.steps)) c.in_default.is c.in_ok-now.ensures.ended in
+    let ended : c.loop-now.state.steps < c.read_next_leaves.new.state.steps = subst (λ (o : Option Frame). IfNone o (c.loop-now.state.steps < c.read_next_leaves.new.state.steps)) c.in_default.is c.in_ok-now.ensures.ended in
     omega (arith, so_far, ended)
 
 pub returns-in_default-clause-cost : goal.returns-in_default-clause-cost
@@ -70,11 +70,11 @@ pub take_member-requires-clause-frame : goal.take_member-requires-clause-frame
 take_member-requires-clause-frame c =
     let so_far = c.loop-now.invariant.steps in
     let grows = c.in_ok-now.ensures.grows in
-    let two = subst (λ (o : Option Frame). Turns c.args.self.now.decoder.table.now (message c.args.self.now.decoder) c.loop-now.rest (at_of c.loop-now.state) (at_of c.read_leaves.new.state) (c.read_leaves.new.state.steps - c.loop-now.state.steps) (left_over o)) c.in-Some.is c.in_ok-now.ensures.ok in
-    let held : Turns c.args.self.now.decoder.table.now (message c.args.self.now.decoder) c.args.frame (at_of c.args.state.now) (at_of c.read_leaves.new.state)
-    (c.read_leaves.new.state.steps - c.args.state.now.steps) (left_over (Some c.in-Some.now)) = turns_then c.args.self.now.decoder.table.now
+    let two = subst (λ (o : Option Frame). Turns c.args.self.now.decoder.table.now (message c.args.self.now.decoder) c.loop-now.rest (at_of c.loop-now.state) (at_of c.read_next_leaves.new.state) (c.read_next_leaves.new.state.steps - c.loop-now.state.steps) (left_over o)) c.in-Some.is c.in_ok-now.ensures.ok in
+    let held : Turns c.args.self.now.decoder.table.now (message c.args.self.now.decoder) c.args.frame (at_of c.args.state.now) (at_of c.read_next_leaves.new.state)
+    (c.read_next_leaves.new.state.steps - c.args.state.now.steps) (left_over (Some c.in-Some.now)) = turns_then c.args.self.now.decoder.table.now
     (message c.args.self.now.decoder) c.args.frame (at_of c.args.state.now) (at_of c.loop-now.state) (c.loop-now.state.steps - c.args.state.now.steps)
-    c.loop-now.rest c.loop-now.invariant.turns (at_of c.read_leaves.new.state) _ _ (left_over (Some c.in-Some.now)) (omega (arith, so_far, grows))
+    c.loop-now.rest c.loop-now.invariant.turns (at_of c.read_next_leaves.new.state) _ _ (left_over (Some c.in-Some.now)) (omega (arith, so_far, grows))
     two in
     held.rest_fine.0
 
@@ -82,11 +82,11 @@ pub take_member-requires-clause-state : goal.take_member-requires-clause-state
 take_member-requires-clause-state c =
     let so_far = c.loop-now.invariant.steps in
     let grows = c.in_ok-now.ensures.grows in
-    let two = subst (λ (o : Option Frame). Turns c.args.self.now.decoder.table.now (message c.args.self.now.decoder) c.loop-now.rest (at_of c.loop-now.state) (at_of c.read_leaves.new.state) (c.read_leaves.new.state.steps - c.loop-now.state.steps) (left_over o)) c.in-Some.is c.in_ok-now.ensures.ok in
-    let held : Turns c.args.self.now.decoder.table.now (message c.args.self.now.decoder) c.args.frame (at_of c.args.state.now) (at_of c.read_leaves.new.state)
-    (c.read_leaves.new.state.steps - c.args.state.now.steps) (left_over (Some c.in-Some.now)) = turns_then c.args.self.now.decoder.table.now
+    let two = subst (λ (o : Option Frame). Turns c.args.self.now.decoder.table.now (message c.args.self.now.decoder) c.loop-now.rest (at_of c.loop-now.state) (at_of c.read_next_leaves.new.state) (c.read_next_leaves.new.state.steps - c.loop-now.state.steps) (left_over o)) c.in-Some.is c.in_ok-now.ensures.ok in
+    let held : Turns c.args.self.now.decoder.table.now (message c.args.self.now.decoder) c.args.frame (at_of c.args.state.now) (at_of c.read_next_leaves.new.state)
+    (c.read_next_leaves.new.state.steps - c.args.state.now.steps) (left_over (Some c.in-Some.now)) = turns_then c.args.self.now.decoder.table.now
     (message c.args.self.now.decoder) c.args.frame (at_of c.args.state.now) (at_of c.loop-now.state) (c.loop-now.state.steps - c.args.state.now.steps)
-    c.loop-now.rest c.loop-now.invariant.turns (at_of c.read_leaves.new.state) _ _ (left_over (Some c.in-Some.now)) (omega (arith, so_far, grows))
+    c.loop-now.rest c.loop-now.invariant.turns (at_of c.read_next_leaves.new.state) _ _ (left_over (Some c.in-Some.now)) (omega (arith, so_far, grows))
     two in
     held.state
 
@@ -94,11 +94,11 @@ pub take_member-requires-clause-budget : goal.take_member-requires-clause-budget
 take_member-requires-clause-budget c =
     let so_far = c.loop-now.invariant.steps in
     let grows = c.in_ok-now.ensures.grows in
-    let two = subst (λ (o : Option Frame). Turns c.args.self.now.decoder.table.now (message c.args.self.now.decoder) c.loop-now.rest (at_of c.loop-now.state) (at_of c.read_leaves.new.state) (c.read_leaves.new.state.steps - c.loop-now.state.steps) (left_over o)) c.in-Some.is c.in_ok-now.ensures.ok in
-    let held : Turns c.args.self.now.decoder.table.now (message c.args.self.now.decoder) c.args.frame (at_of c.args.state.now) (at_of c.read_leaves.new.state)
-    (c.read_leaves.new.state.steps - c.args.state.now.steps) (left_over (Some c.in-Some.now)) = turns_then c.args.self.now.decoder.table.now
+    let two = subst (λ (o : Option Frame). Turns c.args.self.now.decoder.table.now (message c.args.self.now.decoder) c.loop-now.rest (at_of c.loop-now.state) (at_of c.read_next_leaves.new.state) (c.read_next_leaves.new.state.steps - c.loop-now.state.steps) (left_over o)) c.in-Some.is c.in_ok-now.ensures.ok in
+    let held : Turns c.args.self.now.decoder.table.now (message c.args.self.now.decoder) c.args.frame (at_of c.args.state.now) (at_of c.read_next_leaves.new.state)
+    (c.read_next_leaves.new.state.steps - c.args.state.now.steps) (left_over (Some c.in-Some.now)) = turns_then c.args.self.now.decoder.table.now
     (message c.args.self.now.decoder) c.args.frame (at_of c.args.state.now) (at_of c.loop-now.state) (c.loop-now.state.steps - c.args.state.now.steps)
-    c.loop-now.rest c.loop-now.invariant.turns (at_of c.read_leaves.new.state) _ _ (left_over (Some c.in-Some.now)) (omega (arith, so_far, grows))
+    c.loop-now.rest c.loop-now.invariant.turns (at_of c.read_next_leaves.new.state) _ _ (left_over (Some c.in-Some.now)) (omega (arith, so_far, grows))
     two in
     let less_now = held.less in
     omega (arith, less_now, so_far, grows, c.requires.budget)
@@ -107,11 +107,11 @@ pub returns-in_err-turn-clause-cost : goal.returns-in_err-turn-clause-cost
 returns-in_err-turn-clause-cost c =
     let so_far = c.loop-now.invariant.steps in
     let grows = c.in_ok-now.ensures.grows in
-    let two = subst (λ (o : Option Frame). Turns c.args.self.now.decoder.table.now (message c.args.self.now.decoder) c.loop-now.rest (at_of c.loop-now.state) (at_of c.read_leaves.new.state) (c.read_leaves.new.state.steps - c.loop-now.state.steps) (left_over o)) c.in-Some.is c.in_ok-now.ensures.ok in
-    let held : Turns c.args.self.now.decoder.table.now (message c.args.self.now.decoder) c.args.frame (at_of c.args.state.now) (at_of c.read_leaves.new.state)
-    (c.read_leaves.new.state.steps - c.args.state.now.steps) (left_over (Some c.in-Some.now)) = turns_then c.args.self.now.decoder.table.now
+    let two = subst (λ (o : Option Frame). Turns c.args.self.now.decoder.table.now (message c.args.self.now.decoder) c.loop-now.rest (at_of c.loop-now.state) (at_of c.read_next_leaves.new.state) (c.read_next_leaves.new.state.steps - c.loop-now.state.steps) (left_over o)) c.in-Some.is c.in_ok-now.ensures.ok in
+    let held : Turns c.args.self.now.decoder.table.now (message c.args.self.now.decoder) c.args.frame (at_of c.args.state.now) (at_of c.read_next_leaves.new.state)
+    (c.read_next_leaves.new.state.steps - c.args.state.now.steps) (left_over (Some c.in-Some.now)) = turns_then c.args.self.now.decoder.table.now
     (message c.args.self.now.decoder) c.args.frame (at_of c.args.state.now) (at_of c.loop-now.state) (c.loop-now.state.steps - c.args.state.now.steps)
-    c.loop-now.rest c.loop-now.invariant.turns (at_of c.read_leaves.new.state) _ _ (left_over (Some c.in-Some.now)) (omega (arith, so_far, grows))
+    c.loop-now.rest c.loop-now.invariant.turns (at_of c.read_next_leaves.new.state) _ _ (left_over (Some c.in-Some.now)) (omega (arith, so_far, grows))
     two in
     let less_now = held.less in
     omega (arith, less_now, so_far, grows, c.in_err-turn.ensures.cost)
@@ -120,16 +120,16 @@ pub returns-in_default-rest-clause-ok : goal.returns-in_default-rest-clause-ok
 returns-in_default-rest-clause-ok c =
     let so_far = c.loop-now.invariant.steps in
     let grows = c.in_ok-now.ensures.grows in
-    let two = subst (λ (o : Option Frame). Turns c.args.self.now.decoder.table.now (message c.args.self.now.decoder) c.loop-now.rest (at_of c.loop-now.state) (at_of c.read_leaves.new.state) (c.read_leaves.new.state.steps - c.loop-now.state.steps) (left_over o)) c.in-Some.is c.in_ok-now.ensures.ok in
-    let held : Turns c.args.self.now.decoder.table.now (message c.args.self.now.decoder) c.args.frame (at_of c.args.state.now) (at_of c.read_leaves.new.state)
-    (c.read_leaves.new.state.steps - c.args.state.now.steps) (left_over (Some c.in-Some.now)) = turns_then c.args.self.now.decoder.table.now
+    let two = subst (λ (o : Option Frame). Turns c.args.self.now.decoder.table.now (message c.args.self.now.decoder) c.loop-now.rest (at_of c.loop-now.state) (at_of c.read_next_leaves.new.state) (c.read_next_leaves.new.state.steps - c.loop-now.state.steps) (left_over o)) c.in-Some.is c.in_ok-now.ensures.ok in
+    let held : Turns c.args.self.now.decoder.table.now (message c.args.self.now.decoder) c.args.frame (at_of c.args.state.now) (at_of c.read_next_leaves.new.state)
+    (c.read_next_leaves.new.state.steps - c.args.state.now.steps) (left_over (Some c.in-Some.now)) = turns_then c.args.self.now.decoder.table.now
     (message c.args.self.now.decoder) c.args.frame (at_of c.args.state.now) (at_of c.loop-now.state) (c.loop-now.state.steps - c.args.state.now.steps)
-    c.loop-now.rest c.loop-now.invariant.turns (at_of c.read_leaves.new.state) _ _ (left_over (Some c.in-Some.now)) (omega (arith, so_far, grows))
+    c.loop-now.rest c.loop-now.invariant.turns (at_of c.read_next_leaves.new.state) _ _ (left_over (Some c.in-Some.now)) (omega (arith, so_far, grows))
     two in
     let rises = c.in_ok-turn.ensures.rises in
     let read : Turns c.args.self.now.decoder.table.now (message c.args.self.now.decoder) c.args.frame (at_of c.args.state.now) (at_of c.take_member.new.state)
     (c.take_member.new.state.steps - c.args.state.now.steps) c.in_ok-turn.turn = turns_then c.args.self.now.decoder.table.now (message c.args.self.now.decoder)
-    c.args.frame (at_of c.args.state.now) (at_of c.read_leaves.new.state) (c.read_leaves.new.state.steps - c.args.state.now.steps) c.in-Some.now
+    c.args.frame (at_of c.args.state.now) (at_of c.read_next_leaves.new.state) (c.read_next_leaves.new.state.steps - c.args.state.now.steps) c.in-Some.now
     held (at_of c.take_member.new.state) _ _ c.in_ok-turn.turn (omega (arith, so_far, grows, rises)) c.in_ok-turn.ensures.ok in
     read
 
@@ -142,67 +142,67 @@ pub returns-in_default-rest-clause-cost : goal.returns-in_default-rest-clause-co
 returns-in_default-rest-clause-cost c =
     let so_far = c.loop-now.invariant.steps in
     let grows = c.in_ok-now.ensures.grows in
-    let two = subst (λ (o : Option Frame). Turns c.args.self.now.decoder.table.now (message c.args.self.now.decoder) c.loop-now.rest (at_of c.loop-now.state) (at_of c.read_leaves.new.state) (c.read_leaves.new.state.steps - c.loop-now.state.steps) (left_over o)) c.in-Some.is c.in_ok-now.ensures.ok in
-    let held : Turns c.args.self.now.decoder.table.now (message c.args.self.now.decoder) c.args.frame (at_of c.args.state.now) (at_of c.read_leaves.new.state)
-    (c.read_leaves.new.state.steps - c.args.state.now.steps) (left_over (Some c.in-Some.now)) = turns_then c.args.self.now.decoder.table.now
+    let two = subst (λ (o : Option Frame). Turns c.args.self.now.decoder.table.now (message c.args.self.now.decoder) c.loop-now.rest (at_of c.loop-now.state) (at_of c.read_next_leaves.new.state) (c.read_next_leaves.new.state.steps - c.loop-now.state.steps) (left_over o)) c.in-Some.is c.in_ok-now.ensures.ok in
+    let held : Turns c.args.self.now.decoder.table.now (message c.args.self.now.decoder) c.args.frame (at_of c.args.state.now) (at_of c.read_next_leaves.new.state)
+    (c.read_next_leaves.new.state.steps - c.args.state.now.steps) (left_over (Some c.in-Some.now)) = turns_then c.args.self.now.decoder.table.now
     (message c.args.self.now.decoder) c.args.frame (at_of c.args.state.now) (at_of c.loop-now.state) (c.loop-now.state.steps - c.args.state.now.steps)
-    c.loop-now.rest c.loop-now.invariant.turns (at_of c.read_leaves.new.state) _ _ (left_over (Some c.in-Some.now)) (omega (arith, so_far, grows))
+    c.loop-now.rest c.loop-now.invariant.turns (at_of c.read_next_leaves.new.state) _ _ (left_over (Some c.in-Some.now)) (omega (arith, so_far, grows))
     two in
     let less_now = held.less in
     omega (arith, less_now, so_far, grows, c.in_ok-turn.ensures.cost)
 
-pub read_leaves-requires-in-loop-now-clause-frame : goal.read_leaves-requires-in-loop-now-clause-frame
-read_leaves-requires-in-loop-now-clause-frame c =
+pub read_next_leaves-requires-in-loop-now-clause-frame : goal.read_next_leaves-requires-in-loop-now-clause-frame
+read_next_leaves-requires-in-loop-now-clause-frame c =
     let so_far = c.loop-now.invariant.steps in
     let grows = c.in_ok-now.ensures.grows in
-    let two = subst (λ (o : Option Frame). Turns c.args.self.now.decoder.table.now (message c.args.self.now.decoder) c.loop-now.rest (at_of c.loop-now.state) (at_of c.read_leaves.new.state) (c.read_leaves.new.state.steps - c.loop-now.state.steps) (left_over o)) c.in-Some.is c.in_ok-now.ensures.ok in
-    let held : Turns c.args.self.now.decoder.table.now (message c.args.self.now.decoder) c.args.frame (at_of c.args.state.now) (at_of c.read_leaves.new.state)
-    (c.read_leaves.new.state.steps - c.args.state.now.steps) (left_over (Some c.in-Some.now)) = turns_then c.args.self.now.decoder.table.now
+    let two = subst (λ (o : Option Frame). Turns c.args.self.now.decoder.table.now (message c.args.self.now.decoder) c.loop-now.rest (at_of c.loop-now.state) (at_of c.read_next_leaves.new.state) (c.read_next_leaves.new.state.steps - c.loop-now.state.steps) (left_over o)) c.in-Some.is c.in_ok-now.ensures.ok in
+    let held : Turns c.args.self.now.decoder.table.now (message c.args.self.now.decoder) c.args.frame (at_of c.args.state.now) (at_of c.read_next_leaves.new.state)
+    (c.read_next_leaves.new.state.steps - c.args.state.now.steps) (left_over (Some c.in-Some.now)) = turns_then c.args.self.now.decoder.table.now
     (message c.args.self.now.decoder) c.args.frame (at_of c.args.state.now) (at_of c.loop-now.state) (c.loop-now.state.steps - c.args.state.now.steps)
-    c.loop-now.rest c.loop-now.invariant.turns (at_of c.read_leaves.new.state) _ _ (left_over (Some c.in-Some.now)) (omega (arith, so_far, grows))
+    c.loop-now.rest c.loop-now.invariant.turns (at_of c.read_next_leaves.new.state) _ _ (left_over (Some c.in-Some.now)) (omega (arith, so_far, grows))
     two in
     let rises = c.in_ok-turn.ensures.rises in
     let read : Turns c.args.self.now.decoder.table.now (message c.args.self.now.decoder) c.args.frame (at_of c.args.state.now) (at_of c.take_member.new.state)
     (c.take_member.new.state.steps - c.args.state.now.steps) c.in_ok-turn.turn = turns_then c.args.self.now.decoder.table.now (message c.args.self.now.decoder)
-    c.args.frame (at_of c.args.state.now) (at_of c.read_leaves.new.state) (c.read_leaves.new.state.steps - c.args.state.now.steps) c.in-Some.now
+    c.args.frame (at_of c.args.state.now) (at_of c.read_next_leaves.new.state) (c.read_next_leaves.new.state.steps - c.args.state.now.steps) c.in-Some.now
     held (at_of c.take_member.new.state) _ _ c.in_ok-turn.turn (omega (arith, so_far, grows, rises)) c.in_ok-turn.ensures.ok in
     let turn : c.in_ok-turn.turn ≡ record { below = Some c.in-Some-below-2.below; rest = Some c.in-Some-rest.after } = λ i. record { below = c.in-Some-below-2.is i; rest = c.in-Some-rest.is i } in
     let both = subst (λ (x : Turn). Turns c.args.self.now.decoder.table.now (message c.args.self.now.decoder) c.args.frame (at_of c.args.state.now) (at_of c.take_member.new.state) (c.take_member.new.state.steps - c.args.state.now.steps) x) turn read in
     both.below_fine.0
 
-pub read_leaves-requires-in-loop-now-clause-state : goal.read_leaves-requires-in-loop-now-clause-state
-read_leaves-requires-in-loop-now-clause-state c =
+pub read_next_leaves-requires-in-loop-now-clause-state : goal.read_next_leaves-requires-in-loop-now-clause-state
+read_next_leaves-requires-in-loop-now-clause-state c =
     let so_far = c.loop-now.invariant.steps in
     let grows = c.in_ok-now.ensures.grows in
-    let two = subst (λ (o : Option Frame). Turns c.args.self.now.decoder.table.now (message c.args.self.now.decoder) c.loop-now.rest (at_of c.loop-now.state) (at_of c.read_leaves.new.state) (c.read_leaves.new.state.steps - c.loop-now.state.steps) (left_over o)) c.in-Some.is c.in_ok-now.ensures.ok in
-    let held : Turns c.args.self.now.decoder.table.now (message c.args.self.now.decoder) c.args.frame (at_of c.args.state.now) (at_of c.read_leaves.new.state)
-    (c.read_leaves.new.state.steps - c.args.state.now.steps) (left_over (Some c.in-Some.now)) = turns_then c.args.self.now.decoder.table.now
+    let two = subst (λ (o : Option Frame). Turns c.args.self.now.decoder.table.now (message c.args.self.now.decoder) c.loop-now.rest (at_of c.loop-now.state) (at_of c.read_next_leaves.new.state) (c.read_next_leaves.new.state.steps - c.loop-now.state.steps) (left_over o)) c.in-Some.is c.in_ok-now.ensures.ok in
+    let held : Turns c.args.self.now.decoder.table.now (message c.args.self.now.decoder) c.args.frame (at_of c.args.state.now) (at_of c.read_next_leaves.new.state)
+    (c.read_next_leaves.new.state.steps - c.args.state.now.steps) (left_over (Some c.in-Some.now)) = turns_then c.args.self.now.decoder.table.now
     (message c.args.self.now.decoder) c.args.frame (at_of c.args.state.now) (at_of c.loop-now.state) (c.loop-now.state.steps - c.args.state.now.steps)
-    c.loop-now.rest c.loop-now.invariant.turns (at_of c.read_leaves.new.state) _ _ (left_over (Some c.in-Some.now)) (omega (arith, so_far, grows))
+    c.loop-now.rest c.loop-now.invariant.turns (at_of c.read_next_leaves.new.state) _ _ (left_over (Some c.in-Some.now)) (omega (arith, so_far, grows))
     two in
     let rises = c.in_ok-turn.ensures.rises in
     let read : Turns c.args.self.now.decoder.table.now (message c.args.self.now.decoder) c.args.frame (at_of c.args.state.now) (at_of c.take_member.new.state)
     (c.take_member.new.state.steps - c.args.state.now.steps) c.in_ok-turn.turn = turns_then c.args.self.now.decoder.table.now (message c.args.self.now.decoder)
-    c.args.frame (at_of c.args.state.now) (at_of c.read_leaves.new.state) (c.read_leaves.new.state.steps - c.args.state.now.steps) c.in-Some.now
+    c.args.frame (at_of c.args.state.now) (at_of c.read_next_leaves.new.state) (c.read_next_leaves.new.state.steps - c.args.state.now.steps) c.in-Some.now
     held (at_of c.take_member.new.state) _ _ c.in_ok-turn.turn (omega (arith, so_far, grows, rises)) c.in_ok-turn.ensures.ok in
     let turn : c.in_ok-turn.turn ≡ record { below = Some c.in-Some-below-2.below; rest = Some c.in-Some-rest.after } = λ i. record { below = c.in-Some-below-2.is i; rest = c.in-Some-rest.is i } in
     let both = subst (λ (x : Turn). Turns c.args.self.now.decoder.table.now (message c.args.self.now.decoder) c.args.frame (at_of c.args.state.now) (at_of c.take_member.new.state) (c.take_member.new.state.steps - c.args.state.now.steps) x) turn read in
     both.state
 
-pub read_leaves-requires-in-loop-now-clause-budget : goal.read_leaves-requires-in-loop-now-clause-budget
-read_leaves-requires-in-loop-now-clause-budget c =
+pub read_next_leaves-requires-in-loop-now-clause-budget : goal.read_next_leaves-requires-in-loop-now-clause-budget
+read_next_leaves-requires-in-loop-now-clause-budget c =
     let so_far = c.loop-now.invariant.steps in
     let grows = c.in_ok-now.ensures.grows in
-    let two = subst (λ (o : Option Frame). Turns c.args.self.now.decoder.table.now (message c.args.self.now.decoder) c.loop-now.rest (at_of c.loop-now.state) (at_of c.read_leaves.new.state) (c.read_leaves.new.state.steps - c.loop-now.state.steps) (left_over o)) c.in-Some.is c.in_ok-now.ensures.ok in
-    let held : Turns c.args.self.now.decoder.table.now (message c.args.self.now.decoder) c.args.frame (at_of c.args.state.now) (at_of c.read_leaves.new.state)
-    (c.read_leaves.new.state.steps - c.args.state.now.steps) (left_over (Some c.in-Some.now)) = turns_then c.args.self.now.decoder.table.now
+    let two = subst (λ (o : Option Frame). Turns c.args.self.now.decoder.table.now (message c.args.self.now.decoder) c.loop-now.rest (at_of c.loop-now.state) (at_of c.read_next_leaves.new.state) (c.read_next_leaves.new.state.steps - c.loop-now.state.steps) (left_over o)) c.in-Some.is c.in_ok-now.ensures.ok in
+    let held : Turns c.args.self.now.decoder.table.now (message c.args.self.now.decoder) c.args.frame (at_of c.args.state.now) (at_of c.read_next_leaves.new.state)
+    (c.read_next_leaves.new.state.steps - c.args.state.now.steps) (left_over (Some c.in-Some.now)) = turns_then c.args.self.now.decoder.table.now
     (message c.args.self.now.decoder) c.args.frame (at_of c.args.state.now) (at_of c.loop-now.state) (c.loop-now.state.steps - c.args.state.now.steps)
-    c.loop-now.rest c.loop-now.invariant.turns (at_of c.read_leaves.new.state) _ _ (left_over (Some c.in-Some.now)) (omega (arith, so_far, grows))
+    c.loop-now.rest c.loop-now.invariant.turns (at_of c.read_next_leaves.new.state) _ _ (left_over (Some c.in-Some.now)) (omega (arith, so_far, grows))
     two in
     let rises = c.in_ok-turn.ensures.rises in
     let read : Turns c.args.self.now.decoder.table.now (message c.args.self.now.decoder) c.args.frame (at_of c.args.state.now) (at_of c.take_member.new.state)
     (c.take_member.new.state.steps - c.args.state.now.steps) c.in_ok-turn.turn = turns_then c.args.self.now.decoder.table.now (message c.args.self.now.decoder)
-    c.args.frame (at_of c.args.state.now) (at_of c.read_leaves.new.state) (c.read_leaves.new.state.steps - c.args.state.now.steps) c.in-Some.now
+    c.args.frame (at_of c.args.state.now) (at_of c.read_next_leaves.new.state) (c.read_next_leaves.new.state.steps - c.args.state.now.steps) c.in-Some.now
     held (at_of c.take_member.new.state) _ _ c.in_ok-turn.turn (omega (arith, so_far, grows, rises)) c.in_ok-turn.ensures.ok in
     let turn : c.in_ok-turn.turn ≡ record { below = Some c.in-Some-below-2.below; rest = Some c.in-Some-rest.after } = λ i. record { below = c.in-Some-below-2.is i; rest = c.in-Some-rest.is i } in
     let both = subst (λ (x : Turn). Turns c.args.self.now.decoder.table.now (message c.args.self.now.decoder) c.args.frame (at_of c.args.state.now) (at_of c.take_member.new.state) (c.take_member.new.state.steps - c.args.state.now.steps) x) turn read in
@@ -213,16 +213,16 @@ pub returns-in_err-inner-clause-cost : goal.returns-in_err-inner-clause-cost
 returns-in_err-inner-clause-cost c =
     let so_far = c.loop-now.invariant.steps in
     let grows = c.in_ok-now.ensures.grows in
-    let two = subst (λ (o : Option Frame). Turns c.args.self.now.decoder.table.now (message c.args.self.now.decoder) c.loop-now.rest (at_of c.loop-now.state) (at_of c.read_leaves.new.state) (c.read_leaves.new.state.steps - c.loop-now.state.steps) (left_over o)) c.in-Some.is c.in_ok-now.ensures.ok in
-    let held : Turns c.args.self.now.decoder.table.now (message c.args.self.now.decoder) c.args.frame (at_of c.args.state.now) (at_of c.read_leaves.new.state)
-    (c.read_leaves.new.state.steps - c.args.state.now.steps) (left_over (Some c.in-Some.now)) = turns_then c.args.self.now.decoder.table.now
+    let two = subst (λ (o : Option Frame). Turns c.args.self.now.decoder.table.now (message c.args.self.now.decoder) c.loop-now.rest (at_of c.loop-now.state) (at_of c.read_next_leaves.new.state) (c.read_next_leaves.new.state.steps - c.loop-now.state.steps) (left_over o)) c.in-Some.is c.in_ok-now.ensures.ok in
+    let held : Turns c.args.self.now.decoder.table.now (message c.args.self.now.decoder) c.args.frame (at_of c.args.state.now) (at_of c.read_next_leaves.new.state)
+    (c.read_next_leaves.new.state.steps - c.args.state.now.steps) (left_over (Some c.in-Some.now)) = turns_then c.args.self.now.decoder.table.now
     (message c.args.self.now.decoder) c.args.frame (at_of c.args.state.now) (at_of c.loop-now.state) (c.loop-now.state.steps - c.args.state.now.steps)
-    c.loop-now.rest c.loop-now.invariant.turns (at_of c.read_leaves.new.state) _ _ (left_over (Some c.in-Some.now)) (omega (arith, so_far, grows))
+    c.loop-now.rest c.loop-now.invariant.turns (at_of c.read_next_leaves.new.state) _ _ (left_over (Some c.in-Some.now)) (omega (arith, so_far, grows))
     two in
     let rises = c.in_ok-turn.ensures.rises in
     let read : Turns c.args.self.now.decoder.table.now (message c.args.self.now.decoder) c.args.frame (at_of c.args.state.now) (at_of c.take_member.new.state)
     (c.take_member.new.state.steps - c.args.state.now.steps) c.in_ok-turn.turn = turns_then c.args.self.now.decoder.table.now (message c.args.self.now.decoder)
-    c.args.frame (at_of c.args.state.now) (at_of c.read_leaves.new.state) (c.read_leaves.new.state.steps - c.args.state.now.steps) c.in-Some.now
+    c.args.frame (at_of c.args.state.now) (at_of c.read_next_leaves.new.state) (c.read_next_leaves.new.state.steps - c.args.state.now.steps) c.in-Some.now
     held (at_of c.take_member.new.state) _ _ c.in_ok-turn.turn (omega (arith, so_far, grows, rises)) c.in_ok-turn.ensures.ok in
     let turn : c.in_ok-turn.turn ≡ record { below = Some c.in-Some-below-2.below; rest = Some c.in-Some-rest.after } = λ i. record { below = c.in-Some-below-2.is i; rest = c.in-Some-rest.is i } in
     let both = subst (λ (x : Turn). Turns c.args.self.now.decoder.table.now (message c.args.self.now.decoder) c.args.frame (at_of c.args.state.now) (at_of c.take_member.new.state) (c.take_member.new.state.steps - c.args.state.now.steps) x) turn read in
@@ -233,41 +233,41 @@ pub returns-in-loop-now-clause-ok : goal.returns-in-loop-now-clause-ok
 returns-in-loop-now-clause-ok c =
     let so_far = c.loop-now.invariant.steps in
     let grows = c.in_ok-now.ensures.grows in
-    let two = subst (λ (o : Option Frame). Turns c.args.self.now.decoder.table.now (message c.args.self.now.decoder) c.loop-now.rest (at_of c.loop-now.state) (at_of c.read_leaves.new.state) (c.read_leaves.new.state.steps - c.loop-now.state.steps) (left_over o)) c.in-Some.is c.in_ok-now.ensures.ok in
-    let held : Turns c.args.self.now.decoder.table.now (message c.args.self.now.decoder) c.args.frame (at_of c.args.state.now) (at_of c.read_leaves.new.state)
-    (c.read_leaves.new.state.steps - c.args.state.now.steps) (left_over (Some c.in-Some.now)) = turns_then c.args.self.now.decoder.table.now
+    let two = subst (λ (o : Option Frame). Turns c.args.self.now.decoder.table.now (message c.args.self.now.decoder) c.loop-now.rest (at_of c.loop-now.state) (at_of c.read_next_leaves.new.state) (c.read_next_leaves.new.state.steps - c.loop-now.state.steps) (left_over o)) c.in-Some.is c.in_ok-now.ensures.ok in
+    let held : Turns c.args.self.now.decoder.table.now (message c.args.self.now.decoder) c.args.frame (at_of c.args.state.now) (at_of c.read_next_leaves.new.state)
+    (c.read_next_leaves.new.state.steps - c.args.state.now.steps) (left_over (Some c.in-Some.now)) = turns_then c.args.self.now.decoder.table.now
     (message c.args.self.now.decoder) c.args.frame (at_of c.args.state.now) (at_of c.loop-now.state) (c.loop-now.state.steps - c.args.state.now.steps)
-    c.loop-now.rest c.loop-now.invariant.turns (at_of c.read_leaves.new.state) _ _ (left_over (Some c.in-Some.now)) (omega (arith, so_far, grows))
+    c.loop-now.rest c.loop-now.invariant.turns (at_of c.read_next_leaves.new.state) _ _ (left_over (Some c.in-Some.now)) (omega (arith, so_far, grows))
     two in
     let rises = c.in_ok-turn.ensures.rises in
     let read : Turns c.args.self.now.decoder.table.now (message c.args.self.now.decoder) c.args.frame (at_of c.args.state.now) (at_of c.take_member.new.state)
     (c.take_member.new.state.steps - c.args.state.now.steps) c.in_ok-turn.turn = turns_then c.args.self.now.decoder.table.now (message c.args.self.now.decoder)
-    c.args.frame (at_of c.args.state.now) (at_of c.read_leaves.new.state) (c.read_leaves.new.state.steps - c.args.state.now.steps) c.in-Some.now
+    c.args.frame (at_of c.args.state.now) (at_of c.read_next_leaves.new.state) (c.read_next_leaves.new.state.steps - c.args.state.now.steps) c.in-Some.now
     held (at_of c.take_member.new.state) _ _ c.in_ok-turn.turn (omega (arith, so_far, grows, rises)) c.in_ok-turn.ensures.ok in
     let turn : c.in_ok-turn.turn ≡ record { below = Some c.in-Some-below-2.below; rest = Some c.in-Some-rest.after } = λ i. record { below = c.in-Some-below-2.is i; rest = c.in-Some-rest.is i } in
     let both = subst (λ (x : Turn). Turns c.args.self.now.decoder.table.now (message c.args.self.now.decoder) c.args.frame (at_of c.args.state.now) (at_of c.take_member.new.state) (c.take_member.new.state.steps - c.args.state.now.steps) x) turn read in
     let on = c.in_ok-inner.ensures.grows in
     let three = subst (λ (o : Option Frame). Turns c.args.self.now.decoder.table.now (message c.args.self.now.decoder) c.in-Some-below-2.below
-    (at_of c.take_member.new.state) (at_of c.read_leaves-in-loop-now.new.state)
-    (c.read_leaves-in-loop-now.new.state.steps - c.take_member.new.state.steps) (left_over o)) c.in-Some-2.is c.in_ok-inner.ensures.ok in
+    (at_of c.take_member.new.state) (at_of c.read_next_leaves-in-loop-now.new.state)
+    (c.read_next_leaves-in-loop-now.new.state.steps - c.take_member.new.state.steps) (left_over o)) c.in-Some-2.is c.in_ok-inner.ensures.ok in
     turns_below c.args.self.now.decoder.table.now (message c.args.self.now.decoder) c.args.frame (at_of c.args.state.now) (at_of c.take_member.new.state)
     (c.take_member.new.state.steps - c.args.state.now.steps) c.in-Some-below-2.below c.in-Some-rest.after both
-    (at_of c.read_leaves-in-loop-now.new.state) _ _ (Some c.in-Some-2.inner) (omega (arith, so_far, grows, rises, on)) three
+    (at_of c.read_next_leaves-in-loop-now.new.state) _ _ (Some c.in-Some-2.inner) (omega (arith, so_far, grows, rises, on)) three
 
 pub loop-now-preserved-in_default-below-2 : goal.loop-now-preserved-in_default-below-2
 loop-now-preserved-in_default-below-2 c =
     let so_far = c.loop-now.invariant.steps in
     let grows = c.in_ok-now.ensures.grows in
-    let two = subst (λ (o : Option Frame). Turns c.args.self.now.decoder.table.now (message c.args.self.now.decoder) c.loop-now.rest (at_of c.loop-now.state) (at_of c.read_leaves.new.state) (c.read_leaves.new.state.steps - c.loop-now.state.steps) (left_over o)) c.in-Some.is c.in_ok-now.ensures.ok in
-    let held : Turns c.args.self.now.decoder.table.now (message c.args.self.now.decoder) c.args.frame (at_of c.args.state.now) (at_of c.read_leaves.new.state)
-    (c.read_leaves.new.state.steps - c.args.state.now.steps) (left_over (Some c.in-Some.now)) = turns_then c.args.self.now.decoder.table.now
+    let two = subst (λ (o : Option Frame). Turns c.args.self.now.decoder.table.now (message c.args.self.now.decoder) c.loop-now.rest (at_of c.loop-now.state) (at_of c.read_next_leaves.new.state) (c.read_next_leaves.new.state.steps - c.loop-now.state.steps) (left_over o)) c.in-Some.is c.in_ok-now.ensures.ok in
+    let held : Turns c.args.self.now.decoder.table.now (message c.args.self.now.decoder) c.args.frame (at_of c.args.state.now) (at_of c.read_next_leaves.new.state)
+    (c.read_next_leaves.new.state.steps - c.args.state.now.steps) (left_over (Some c.in-Some.now)) = turns_then c.args.self.now.decoder.table.now
     (message c.args.self.now.decoder) c.args.frame (at_of c.args.state.now) (at_of c.loop-now.state) (c.loop-now.state.steps - c.args.state.now.steps)
-    c.loop-now.rest c.loop-now.invariant.turns (at_of c.read_leaves.new.state) _ _ (left_over (Some c.in-Some.now)) (omega (arith, so_far, grows))
+    c.loop-now.rest c.loop-now.invariant.turns (at_of c.read_next_leaves.new.state) _ _ (left_over (Some c.in-Some.now)) (omega (arith, so_far, grows))
     two in
     let rises = c.in_ok-turn.ensures.rises in
     let read : Turns c.args.self.now.decoder.table.now (message c.args.self.now.decoder) c.args.frame (at_of c.args.state.now) (at_of c.take_member.new.state)
     (c.take_member.new.state.steps - c.args.state.now.steps) c.in_ok-turn.turn = turns_then c.args.self.now.decoder.table.now (message c.args.self.now.decoder)
-    c.args.frame (at_of c.args.state.now) (at_of c.read_leaves.new.state) (c.read_leaves.new.state.steps - c.args.state.now.steps) c.in-Some.now
+    c.args.frame (at_of c.args.state.now) (at_of c.read_next_leaves.new.state) (c.read_next_leaves.new.state.steps - c.args.state.now.steps) c.in-Some.now
     held (at_of c.take_member.new.state) _ _ c.in_ok-turn.turn (omega (arith, so_far, grows, rises)) c.in_ok-turn.ensures.ok in
     let turn : c.in_ok-turn.turn ≡ left_over (Some c.in-Some-rest.after) = λ i. record { below = c.in_default-below-2.is i; rest = c.in-Some-rest.is i } in
     let alone = subst (λ (x : Turn). Turns c.args.self.now.decoder.table.now (message c.args.self.now.decoder) c.args.frame (at_of c.args.state.now) (at_of c.take_member.new.state) (c.take_member.new.state.steps - c.args.state.now.steps) x) turn read in
@@ -277,16 +277,16 @@ pub loop-now-preserved-then-is_over : goal.loop-now-preserved-then-is_over
 loop-now-preserved-then-is_over c =
     let so_far = c.loop-now.invariant.steps in
     let grows = c.in_ok-now.ensures.grows in
-    let two = subst (λ (o : Option Frame). Turns c.args.self.now.decoder.table.now (message c.args.self.now.decoder) c.loop-now.rest (at_of c.loop-now.state) (at_of c.read_leaves.new.state) (c.read_leaves.new.state.steps - c.loop-now.state.steps) (left_over o)) c.in-Some.is c.in_ok-now.ensures.ok in
-    let held : Turns c.args.self.now.decoder.table.now (message c.args.self.now.decoder) c.args.frame (at_of c.args.state.now) (at_of c.read_leaves.new.state)
-    (c.read_leaves.new.state.steps - c.args.state.now.steps) (left_over (Some c.in-Some.now)) = turns_then c.args.self.now.decoder.table.now
+    let two = subst (λ (o : Option Frame). Turns c.args.self.now.decoder.table.now (message c.args.self.now.decoder) c.loop-now.rest (at_of c.loop-now.state) (at_of c.read_next_leaves.new.state) (c.read_next_leaves.new.state.steps - c.loop-now.state.steps) (left_over o)) c.in-Some.is c.in_ok-now.ensures.ok in
+    let held : Turns c.args.self.now.decoder.table.now (message c.args.self.now.decoder) c.args.frame (at_of c.args.state.now) (at_of c.read_next_leaves.new.state)
+    (c.read_next_leaves.new.state.steps - c.args.state.now.steps) (left_over (Some c.in-Some.now)) = turns_then c.args.self.now.decoder.table.now
     (message c.args.self.now.decoder) c.args.frame (at_of c.args.state.now) (at_of c.loop-now.state) (c.loop-now.state.steps - c.args.state.now.steps)
-    c.loop-now.rest c.loop-now.invariant.turns (at_of c.read_leaves.new.state) _ _ (left_over (Some c.in-Some.now)) (omega (arith, so_far, grows))
+    c.loop-now.rest c.loop-now.invariant.turns (at_of c.read_next_leaves.new.state) _ _ (left_over (Some c.in-Some.now)) (omega (arith, so_far, grows))
     two in
     let rises = c.in_ok-turn.ensures.rises in
     let read : Turns c.args.self.now.decoder.table.now (message c.args.self.now.decoder) c.args.frame (at_of c.args.state.now) (at_of c.take_member.new.state)
     (c.take_member.new.state.steps - c.args.state.now.steps) c.in_ok-turn.turn = turns_then c.args.self.now.decoder.table.now (message c.args.self.now.decoder)
-    c.args.frame (at_of c.args.state.now) (at_of c.read_leaves.new.state) (c.read_leaves.new.state.steps - c.args.state.now.steps) c.in-Some.now
+    c.args.frame (at_of c.args.state.now) (at_of c.read_next_leaves.new.state) (c.read_next_leaves.new.state.steps - c.args.state.now.steps) c.in-Some.now
     held (at_of c.take_member.new.state) _ _ c.in_ok-turn.turn (omega (arith, so_far, grows, rises)) c.in_ok-turn.ensures.ok in
     let turn : c.in_ok-turn.turn ≡ record { below = Some c.in-Some-below.below; rest = Some c.in-Some-rest.after } = λ i. record { below = c.in-Some-below.is i; rest = c.in-Some-rest.is i } in
     let both = subst (λ (x : Turn). Turns c.args.self.now.decoder.table.now (message c.args.self.now.decoder) c.args.frame (at_of c.args.state.now) (at_of c.take_member.new.state) (c.take_member.new.state.steps - c.args.state.now.steps) x) turn read in
@@ -303,28 +303,28 @@ pub loop-now-preserved : goal.loop-now-preserved
 loop-now-preserved c =
     let so_far = c.loop-now.invariant.steps in
     let grows = c.in_ok-now.ensures.grows in
-    let two = subst (λ (o : Option Frame). Turns c.args.self.now.decoder.table.now (message c.args.self.now.decoder) c.loop-now.rest (at_of c.loop-now.state) (at_of c.read_leaves.new.state) (c.read_leaves.new.state.steps - c.loop-now.state.steps) (left_over o)) c.in-Some.is c.in_ok-now.ensures.ok in
-    let held : Turns c.args.self.now.decoder.table.now (message c.args.self.now.decoder) c.args.frame (at_of c.args.state.now) (at_of c.read_leaves.new.state)
-    (c.read_leaves.new.state.steps - c.args.state.now.steps) (left_over (Some c.in-Some.now)) = turns_then c.args.self.now.decoder.table.now
+    let two = subst (λ (o : Option Frame). Turns c.args.self.now.decoder.table.now (message c.args.self.now.decoder) c.loop-now.rest (at_of c.loop-now.state) (at_of c.read_next_leaves.new.state) (c.read_next_leaves.new.state.steps - c.loop-now.state.steps) (left_over o)) c.in-Some.is c.in_ok-now.ensures.ok in
+    let held : Turns c.args.self.now.decoder.table.now (message c.args.self.now.decoder) c.args.frame (at_of c.args.state.now) (at_of c.read_next_leaves.new.state)
+    (c.read_next_leaves.new.state.steps - c.args.state.now.steps) (left_over (Some c.in-Some.now)) = turns_then c.args.self.now.decoder.table.now
     (message c.args.self.now.decoder) c.args.frame (at_of c.args.state.now) (at_of c.loop-now.state) (c.loop-now.state.steps - c.args.state.now.steps)
-    c.loop-now.rest c.loop-now.invariant.turns (at_of c.read_leaves.new.state) _ _ (left_over (Some c.in-Some.now)) (omega (arith, so_far, grows))
+    c.loop-now.rest c.loop-now.invariant.turns (at_of c.read_next_leaves.new.state) _ _ (left_over (Some c.in-Some.now)) (omega (arith, so_far, grows))
     two in
     let rises = c.in_ok-turn.ensures.rises in
     let read : Turns c.args.self.now.decoder.table.now (message c.args.self.now.decoder) c.args.frame (at_of c.args.state.now) (at_of c.take_member.new.state)
     (c.take_member.new.state.steps - c.args.state.now.steps) c.in_ok-turn.turn = turns_then c.args.self.now.decoder.table.now (message c.args.self.now.decoder)
-    c.args.frame (at_of c.args.state.now) (at_of c.read_leaves.new.state) (c.read_leaves.new.state.steps - c.args.state.now.steps) c.in-Some.now
+    c.args.frame (at_of c.args.state.now) (at_of c.read_next_leaves.new.state) (c.read_next_leaves.new.state.steps - c.args.state.now.steps) c.in-Some.now
     held (at_of c.take_member.new.state) _ _ c.in_ok-turn.turn (omega (arith, so_far, grows, rises)) c.in_ok-turn.ensures.ok in
     let turn : c.in_ok-turn.turn ≡ record { below = Some c.in-Some-below-2.below; rest = Some c.in-Some-rest.after } = λ i. record { below = c.in-Some-below-2.is i; rest = c.in-Some-rest.is i } in
     let both = subst (λ (x : Turn). Turns c.args.self.now.decoder.table.now (message c.args.self.now.decoder) c.args.frame (at_of c.args.state.now) (at_of c.take_member.new.state) (c.take_member.new.state.steps - c.args.state.now.steps) x) turn read in
     let on = c.in_ok-inner.ensures.grows in
     let three = subst (λ (o : Option Frame). Turns c.args.self.now.decoder.table.now (message c.args.self.now.decoder) c.in-Some-below-2.below
-    (at_of c.take_member.new.state) (at_of c.read_leaves-in-loop-now.new.state)
-    (c.read_leaves-in-loop-now.new.state.steps - c.take_member.new.state.steps) (left_over o)) c.in_default-2.is c.in_ok-inner.ensures.ok in
+    (at_of c.take_member.new.state) (at_of c.read_next_leaves-in-loop-now.new.state)
+    (c.read_next_leaves-in-loop-now.new.state.steps - c.take_member.new.state.steps) (left_over o)) c.in_default-2.is c.in_ok-inner.ensures.ok in
     record {
-      holds = c.read_leaves-in-loop-now.ensures.holds;
+      holds = c.read_next_leaves-in-loop-now.ensures.holds;
       turns = turns_over c.args.self.now.decoder.table.now (message c.args.self.now.decoder) c.args.frame
           (at_of c.args.state.now) (at_of c.take_member.new.state) (c.take_member.new.state.steps - c.args.state.now.steps) c.in-Some-below-2.below
-          c.in-Some-rest.after both (at_of c.read_leaves-in-loop-now.new.state) _ _ (omega (arith, so_far, grows, rises, on)) three;
+          c.in-Some-rest.after both (at_of c.read_next_leaves-in-loop-now.new.state) _ _ (omega (arith, so_far, grows, rises, on)) three;
       steps = omega
           (arith, so_far, grows, rises, on);
     }
@@ -338,29 +338,29 @@ pub returns-in_err-turn-clause-fault_is_true : goal.returns-in_err-turn-clause-f
 returns-in_err-turn-clause-fault_is_true c =
     let so_far = c.loop-now.invariant.steps in
     let grows = c.in_ok-now.ensures.grows in
-    let two = subst (λ (o : Option Frame). Turns c.args.self.now.decoder.table.now (message c.args.self.now.decoder) c.loop-now.rest (at_of c.loop-now.state) (at_of c.read_leaves.new.state) (c.read_leaves.new.state.steps - c.loop-now.state.steps) (left_over o)) c.in-Some.is c.in_ok-now.ensures.ok in
-    let held : Turns c.args.self.now.decoder.table.now (message c.args.self.now.decoder) c.args.frame (at_of c.args.state.now) (at_of c.read_leaves.new.state)
-    (c.read_leaves.new.state.steps - c.args.state.now.steps) (left_over (Some c.in-Some.now)) = turns_then c.args.self.now.decoder.table.now
+    let two = subst (λ (o : Option Frame). Turns c.args.self.now.decoder.table.now (message c.args.self.now.decoder) c.loop-now.rest (at_of c.loop-now.state) (at_of c.read_next_leaves.new.state) (c.read_next_leaves.new.state.steps - c.loop-now.state.steps) (left_over o)) c.in-Some.is c.in_ok-now.ensures.ok in
+    let held : Turns c.args.self.now.decoder.table.now (message c.args.self.now.decoder) c.args.frame (at_of c.args.state.now) (at_of c.read_next_leaves.new.state)
+    (c.read_next_leaves.new.state.steps - c.args.state.now.steps) (left_over (Some c.in-Some.now)) = turns_then c.args.self.now.decoder.table.now
     (message c.args.self.now.decoder) c.args.frame (at_of c.args.state.now) (at_of c.loop-now.state) (c.loop-now.state.steps - c.args.state.now.steps)
-    c.loop-now.rest c.loop-now.invariant.turns (at_of c.read_leaves.new.state) _ _ (left_over (Some c.in-Some.now)) (omega (arith, so_far, grows))
+    c.loop-now.rest c.loop-now.invariant.turns (at_of c.read_next_leaves.new.state) _ _ (left_over (Some c.in-Some.now)) (omega (arith, so_far, grows))
     two in
     passed_on c.from_residual-in_err-turn.result c.in_err-turn.field-0.0 _ c.from_residual-in_err-turn.ensures.1
-    (turns_break c.args.self.now.decoder.table.now (message c.args.self.now.decoder) c.args.frame (at_of c.args.state.now) (at_of c.read_leaves.new.state) (c.read_leaves.new.state.steps - c.args.state.now.steps) c.in-Some.now held _ c.in_err-turn.ensures.fault_is_true)
+    (turns_break c.args.self.now.decoder.table.now (message c.args.self.now.decoder) c.args.frame (at_of c.args.state.now) (at_of c.read_next_leaves.new.state) (c.read_next_leaves.new.state.steps - c.args.state.now.steps) c.in-Some.now held _ c.in_err-turn.ensures.fault_is_true)
 
 pub returns-in_err-inner-clause-fault_is_true : goal.returns-in_err-inner-clause-fault_is_true
 returns-in_err-inner-clause-fault_is_true c =
     let so_far = c.loop-now.invariant.steps in
     let grows = c.in_ok-now.ensures.grows in
-    let two = subst (λ (o : Option Frame). Turns c.args.self.now.decoder.table.now (message c.args.self.now.decoder) c.loop-now.rest (at_of c.loop-now.state) (at_of c.read_leaves.new.state) (c.read_leaves.new.state.steps - c.loop-now.state.steps) (left_over o)) c.in-Some.is c.in_ok-now.ensures.ok in
-    let held : Turns c.args.self.now.decoder.table.now (message c.args.self.now.decoder) c.args.frame (at_of c.args.state.now) (at_of c.read_leaves.new.state)
-    (c.read_leaves.new.state.steps - c.args.state.now.steps) (left_over (Some c.in-Some.now)) = turns_then c.args.self.now.decoder.table.now
+    let two = subst (λ (o : Option Frame). Turns c.args.self.now.decoder.table.now (message c.args.self.now.decoder) c.loop-now.rest (at_of c.loop-now.state) (at_of c.read_next_leaves.new.state) (c.read_next_leaves.new.state.steps - c.loop-now.state.steps) (left_over o)) c.in-Some.is c.in_ok-now.ensures.ok in
+    let held : Turns c.args.self.now.decoder.table.now (message c.args.self.now.decoder) c.args.frame (at_of c.args.state.now) (at_of c.read_next_leaves.new.state)
+    (c.read_next_leaves.new.state.steps - c.args.state.now.steps) (left_over (Some c.in-Some.now)) = turns_then c.args.self.now.decoder.table.now
     (message c.args.self.now.decoder) c.args.frame (at_of c.args.state.now) (at_of c.loop-now.state) (c.loop-now.state.steps - c.args.state.now.steps)
-    c.loop-now.rest c.loop-now.invariant.turns (at_of c.read_leaves.new.state) _ _ (left_over (Some c.in-Some.now)) (omega (arith, so_far, grows))
+    c.loop-now.rest c.loop-now.invariant.turns (at_of c.read_next_leaves.new.state) _ _ (left_over (Some c.in-Some.now)) (omega (arith, so_far, grows))
     two in
     let rises = c.in_ok-turn.ensures.rises in
     let read : Turns c.args.self.now.decoder.table.now (message c.args.self.now.decoder) c.args.frame (at_of c.args.state.now) (at_of c.take_member.new.state)
     (c.take_member.new.state.steps - c.args.state.now.steps) c.in_ok-turn.turn = turns_then c.args.self.now.decoder.table.now (message c.args.self.now.decoder)
-    c.args.frame (at_of c.args.state.now) (at_of c.read_leaves.new.state) (c.read_leaves.new.state.steps - c.args.state.now.steps) c.in-Some.now
+    c.args.frame (at_of c.args.state.now) (at_of c.read_next_leaves.new.state) (c.read_next_leaves.new.state.steps - c.args.state.now.steps) c.in-Some.now
     held (at_of c.take_member.new.state) _ _ c.in_ok-turn.turn (omega (arith, so_far, grows, rises)) c.in_ok-turn.ensures.ok in
     let turn : c.in_ok-turn.turn ≡ record { below = Some c.in-Some-below-2.below; rest = Some c.in-Some-rest.after } = λ i. record { below = c.in-Some-below-2.is i; rest = c.in-Some-rest.is i } in
     let both = subst (λ (x : Turn). Turns c.args.self.now.decoder.table.now (message c.args.self.now.decoder) c.args.frame (at_of c.args.state.now) (at_of c.take_member.new.state) (c.take_member.new.state.steps - c.args.state.now.steps) x) turn read in
@@ -368,20 +368,20 @@ returns-in_err-inner-clause-fault_is_true c =
     (below_breaks c.args.self.now.decoder.table.now (message c.args.self.now.decoder) c.args.frame (at_of c.args.state.now) (at_of c.take_member.new.state) (c.take_member.new.state.steps - c.args.state.now.steps)
     c.in-Some-below-2.below c.in-Some-rest.after both _ c.in_err-inner.ensures.fault_is_true)
 
-pub read_leaves-requires-in-loop-now-clause-ready : goal.read_leaves-requires-in-loop-now-clause-ready
-read_leaves-requires-in-loop-now-clause-ready c =
+pub read_next_leaves-requires-in-loop-now-clause-ready : goal.read_next_leaves-requires-in-loop-now-clause-ready
+read_next_leaves-requires-in-loop-now-clause-ready c =
     let so_far = c.loop-now.invariant.steps in
     let grows = c.in_ok-now.ensures.grows in
-    let two = subst (λ (o : Option Frame). Turns c.args.self.now.decoder.table.now (message c.args.self.now.decoder) c.loop-now.rest (at_of c.loop-now.state) (at_of c.read_leaves.new.state) (c.read_leaves.new.state.steps - c.loop-now.state.steps) (left_over o)) c.in-Some.is c.in_ok-now.ensures.ok in
-    let held : Turns c.args.self.now.decoder.table.now (message c.args.self.now.decoder) c.args.frame (at_of c.args.state.now) (at_of c.read_leaves.new.state)
-    (c.read_leaves.new.state.steps - c.args.state.now.steps) (left_over (Some c.in-Some.now)) = turns_then c.args.self.now.decoder.table.now
+    let two = subst (λ (o : Option Frame). Turns c.args.self.now.decoder.table.now (message c.args.self.now.decoder) c.loop-now.rest (at_of c.loop-now.state) (at_of c.read_next_leaves.new.state) (c.read_next_leaves.new.state.steps - c.loop-now.state.steps) (left_over o)) c.in-Some.is c.in_ok-now.ensures.ok in
+    let held : Turns c.args.self.now.decoder.table.now (message c.args.self.now.decoder) c.args.frame (at_of c.args.state.now) (at_of c.read_next_leaves.new.state)
+    (c.read_next_leaves.new.state.steps - c.args.state.now.steps) (left_over (Some c.in-Some.now)) = turns_then c.args.self.now.decoder.table.now
     (message c.args.self.now.decoder) c.args.frame (at_of c.args.state.now) (at_of c.loop-now.state) (c.loop-now.state.steps - c.args.state.now.steps)
-    c.loop-now.rest c.loop-now.invariant.turns (at_of c.read_leaves.new.state) _ _ (left_over (Some c.in-Some.now)) (omega (arith, so_far, grows))
+    c.loop-now.rest c.loop-now.invariant.turns (at_of c.read_next_leaves.new.state) _ _ (left_over (Some c.in-Some.now)) (omega (arith, so_far, grows))
     two in
     let rises = c.in_ok-turn.ensures.rises in
     let read : Turns c.args.self.now.decoder.table.now (message c.args.self.now.decoder) c.args.frame (at_of c.args.state.now) (at_of c.take_member.new.state)
     (c.take_member.new.state.steps - c.args.state.now.steps) c.in_ok-turn.turn = turns_then c.args.self.now.decoder.table.now (message c.args.self.now.decoder)
-    c.args.frame (at_of c.args.state.now) (at_of c.read_leaves.new.state) (c.read_leaves.new.state.steps - c.args.state.now.steps) c.in-Some.now
+    c.args.frame (at_of c.args.state.now) (at_of c.read_next_leaves.new.state) (c.read_next_leaves.new.state.steps - c.args.state.now.steps) c.in-Some.now
     held (at_of c.take_member.new.state) _ _ c.in_ok-turn.turn (omega (arith, so_far, grows, rises)) c.in_ok-turn.ensures.ok in
     let turn : c.in_ok-turn.turn ≡ record { below = Some c.in-Some-below-2.below; rest = Some c.in-Some-rest.after } = λ i. record { below = c.in-Some-below-2.is i; rest = c.in-Some-rest.is i } in
     let both = subst (λ (x : Turn). Turns c.args.self.now.decoder.table.now (message c.args.self.now.decoder) c.args.frame (at_of c.args.state.now) (at_of c.take_member.new.state) (c.take_member.new.state.steps - c.args.state.now.steps) x) turn read in
@@ -392,16 +392,16 @@ pub returns-in_default-below-clause-ok : goal.returns-in_default-below-clause-ok
 returns-in_default-below-clause-ok c =
     let so_far = c.loop-now.invariant.steps in
     let grows = c.in_ok-now.ensures.grows in
-    let two = subst (λ (o : Option Frame). Turns c.args.self.now.decoder.table.now (message c.args.self.now.decoder) c.loop-now.rest (at_of c.loop-now.state) (at_of c.read_leaves.new.state) (c.read_leaves.new.state.steps - c.loop-now.state.steps) (left_over o)) c.in-Some.is c.in_ok-now.ensures.ok in
-    let held : Turns c.args.self.now.decoder.table.now (message c.args.self.now.decoder) c.args.frame (at_of c.args.state.now) (at_of c.read_leaves.new.state)
-    (c.read_leaves.new.state.steps - c.args.state.now.steps) (left_over (Some c.in-Some.now)) = turns_then c.args.self.now.decoder.table.now
+    let two = subst (λ (o : Option Frame). Turns c.args.self.now.decoder.table.now (message c.args.self.now.decoder) c.loop-now.rest (at_of c.loop-now.state) (at_of c.read_next_leaves.new.state) (c.read_next_leaves.new.state.steps - c.loop-now.state.steps) (left_over o)) c.in-Some.is c.in_ok-now.ensures.ok in
+    let held : Turns c.args.self.now.decoder.table.now (message c.args.self.now.decoder) c.args.frame (at_of c.args.state.now) (at_of c.read_next_leaves.new.state)
+    (c.read_next_leaves.new.state.steps - c.args.state.now.steps) (left_over (Some c.in-Some.now)) = turns_then c.args.self.now.decoder.table.now
     (message c.args.self.now.decoder) c.args.frame (at_of c.args.state.now) (at_of c.loop-now.state) (c.loop-now.state.steps - c.args.state.now.steps)
-    c.loop-now.rest c.loop-now.invariant.turns (at_of c.read_leaves.new.state) _ _ (left_over (Some c.in-Some.now)) (omega (arith, so_far, grows))
+    c.loop-now.rest c.loop-now.invariant.turns (at_of c.read_next_leaves.new.state) _ _ (left_over (Some c.in-Some.now)) (omega (arith, so_far, grows))
     two in
     let rises = c.in_ok-turn.ensures.rises in
     let read : Turns c.args.self.now.decoder.table.now (message c.args.self.now.decoder) c.args.frame (at_of c.args.state.now) (at_of c.take_member.new.state)
     (c.take_member.new.state.steps - c.args.state.now.steps) c.in_ok-turn.turn = turns_then c.args.self.now.decoder.table.now (message c.args.self.now.decoder)
-    c.args.frame (at_of c.args.state.now) (at_of c.read_leaves.new.state) (c.read_leaves.new.state.steps - c.args.state.now.steps) c.in-Some.now
+    c.args.frame (at_of c.args.state.now) (at_of c.read_next_leaves.new.state) (c.read_next_leaves.new.state.steps - c.args.state.now.steps) c.in-Some.now
     held (at_of c.take_member.new.state) _ _ c.in_ok-turn.turn (omega (arith, so_far, grows, rises)) c.in_ok-turn.ensures.ok in
     let turn : c.in_ok-turn.turn ≡ left_over (Some c.in-Some-rest.after) = λ i. record { below = c.in_default-below.is i; rest = c.in-Some-rest.is i } in
     let alone = subst (λ (x : Turn). Turns c.args.self.now.decoder.table.now (message c.args.self.now.decoder) c.args.frame (at_of c.args.state.now) (at_of c.take_member.new.state) (c.take_member.new.state.steps - c.args.state.now.steps) x) turn read in
