@@ -5,6 +5,7 @@ pub mod Refusing
 pub mod Unlinked
 pub mod Placing
 pub mod Flags
+pub mod Leaving
 pub mod Tail
 pub mod Last
 pub mod Front

@@ -10,9 +10,11 @@ ghost use Rattle.fidl_decode_model.specs.Invariants.{AreLeaves};
 ghost use Rattle.fidl_decode_model.specs.Machine.{StateFine, FrameFine, BreaksFrame, Turns};
 ghost use Rattle.fidl_decode_model.specs.Machine.{turn_work, at_of};
 ghost use Rattle.fidl_decode.specs.Over.{IsOver};
+ghost use Rattle.fidl_decode.specs.Pending.{Leaves};
 ghost use Rattle.fidl_decode.specs.Reading.{table, came, message, Holds, CanReadFrame};
 
 use crate::frames::Frames;
+use crate::pending::{Pending, is_done};
 use fidl_decode_columns::Columns;
 use fidl_decode_model::DecodeFault;
 use fidl_decode_model::frame::{Frame, Remaining, State, Turn};
@@ -23,7 +25,7 @@ use fidl_table_format::EntryKind;
 const FEW_STRUCTS: u32 = 2;
 
 /// Whether all of a frame is read, up to its end: nothing is left behind what is below.
-fn is_over(frame: &Frame) -> bool
+pub(crate) fn is_over(frame: &Frame) -> bool
     ensures { IsTrue result ↔ IsOver frame.now }
 {
     match frame.left {
@@ -44,7 +46,7 @@ impl<'t, 'm, 's> Frames<'t, 'm, 's> {
         size: usize,
         count: u32,
         state: &mut State<'_, '_>,
-    ) -> Result<Turn, DecodeFault>
+    ) -> Result<Pending, DecodeFault>
         requires left { frame.left ≡ left.Elements entry size count }
         requires entry { entry < (header_of (table self.now)).entries }
         requires kind { kind_of (entry_at (table self.now) entry).kind ≡ Some kinds.Struct }
@@ -56,8 +58,8 @@ impl<'t, 'm, 's> Frames<'t, 'm, 's> {
         requires ready { CanReadFrame self.now state.old frame }
         requires budget { state.old.steps + turn_work (came self.now) state.old.next frame < 2 ^ 40 }
         ensures holds { Holds self.now state.new }
-        ensures ok { IfOk result (λ turn. Turns (table self.now) (message self.now) frame
-            (at_of state.old) (at_of state.new) (state.new.steps - state.old.steps) turn) }
+        ensures ok { IfOk result (λ left. Leaves (table self.now) (message self.now) frame
+            (at_of state.old) (at_of state.new) (state.new.steps - state.old.steps) left) }
         ensures rises { OnOk result (state.old.steps < state.new.steps) }
         ensures cost { state.new.steps ≤ state.old.steps + turn_work (came self.now) state.old.next
             frame }
@@ -85,32 +87,40 @@ impl<'t, 'm, 's> Frames<'t, 'm, 's> {
             state.steps += 1;
             let found = self.read_struct_element::<FLAT>(below, &plain, &known, state)?;
             done += size;
-            if let Some(inner) = found {
-                return Ok(Turn {
-                    below: Some(inner),
-                    rest: Some(Frame {
-                        left: Remaining::Elements {
-                            entry,
-                            size: size as u32,
-                            count: count - (i + 1),
-                        },
-                        base: frame.base,
-                        done: done as u32,
-                        size: frame.size,
-                        nest: frame.nest,
-                        depth: frame.depth,
-                        in_envelope: frame.in_envelope,
-                    }),
-                });
+            let Some(inner) = found else {
+                continue;
+            };
+            let turn = self.read_rest(inner, state)?;
+            if is_done(&turn) {
+                continue;
             }
+            return Ok(Pending {
+                under: Some(Frame {
+                    left: Remaining::Elements {
+                        entry,
+                        size: size as u32,
+                        count: count - (i + 1),
+                    },
+                    base: frame.base,
+                    done: done as u32,
+                    size: frame.size,
+                    nest: frame.nest,
+                    depth: frame.depth,
+                    in_envelope: frame.in_envelope,
+                }),
+                turn,
+            });
         }
         let behind = frame.base as usize + done;
         let stop = frame.base as usize + frame.size as usize;
         state.steps += (stop - behind) as u64 + 1;
         self.decoder.zeros_at(behind, stop, state)?;
-        Ok(Turn {
-            below: None,
-            rest: None,
+        Ok(Pending {
+            under: None,
+            turn: Turn {
+                below: None,
+                rest: None,
+            },
         })
     }
 
@@ -124,7 +134,7 @@ impl<'t, 'm, 's> Frames<'t, 'm, 's> {
         size: usize,
         count: u32,
         state: &mut State<'_, '_>,
-    ) -> Result<Turn, DecodeFault>
+    ) -> Result<Pending, DecodeFault>
         requires left { frame.left ≡ left.Elements entry size count }
         requires entry { entry < (header_of (table self.now)).entries }
         requires kind { kind_of (entry_at (table self.now) entry).kind ≡ Some kinds.Struct }
@@ -136,8 +146,8 @@ impl<'t, 'm, 's> Frames<'t, 'm, 's> {
         requires ready { CanReadFrame self.now state.old frame }
         requires budget { state.old.steps + turn_work (came self.now) state.old.next frame < 2 ^ 40 }
         ensures holds { Holds self.now state.new }
-        ensures ok { IfOk result (λ turn. Turns (table self.now) (message self.now) frame
-            (at_of state.old) (at_of state.new) (state.new.steps - state.old.steps) turn) }
+        ensures ok { IfOk result (λ left. Leaves (table self.now) (message self.now) frame
+            (at_of state.old) (at_of state.new) (state.new.steps - state.old.steps) left) }
         ensures rises { OnOk result (state.old.steps < state.new.steps) }
         ensures cost { state.new.steps ≤ state.old.steps + turn_work (came self.now) state.old.next
             frame }
@@ -213,7 +223,7 @@ impl<'t, 'm, 's> Frames<'t, 'm, 's> {
         size: usize,
         count: u32,
         state: &mut State<'_, '_>,
-    ) -> Result<Turn, DecodeFault>
+    ) -> Result<Pending, DecodeFault>
         requires left { frame.left ≡ left.Elements entry size count }
         requires some { 0 < count }
         requires entry { entry < (header_of (table self.now)).entries }
@@ -224,8 +234,8 @@ impl<'t, 'm, 's> Frames<'t, 'm, 's> {
         requires ready { CanReadFrame self.now state.old frame }
         requires budget { state.old.steps + turn_work (came self.now) state.old.next frame < 2 ^ 40 }
         ensures holds { Holds self.now state.new }
-        ensures ok { IfOk result (λ turn. Turns (table self.now) (message self.now) frame
-            (at_of state.old) (at_of state.new) (state.new.steps - state.old.steps) turn) }
+        ensures ok { IfOk result (λ left. Leaves (table self.now) (message self.now) frame
+            (at_of state.old) (at_of state.new) (state.new.steps - state.old.steps) left) }
         ensures rises { OnOk result (state.old.steps < state.new.steps) }
         ensures cost { state.new.steps ≤ state.old.steps + turn_work (came self.now) state.old.next
             frame }
@@ -237,9 +247,12 @@ impl<'t, 'm, 's> Frames<'t, 'm, 's> {
             && count > FEW_STRUCTS
             && self.check_columns(frame, entry, size, count, state)?
         {
-            return Ok(Turn {
-                below: None,
-                rest: None,
+            return Ok(Pending {
+                under: None,
+                turn: Turn {
+                    below: None,
+                    rest: None,
+                },
             });
         }
         if self.are_structs_of_leaves(&frame, entry) {
@@ -257,7 +270,7 @@ impl<'t, 'm, 's> Frames<'t, 'm, 's> {
         size: usize,
         count: u32,
         state: &mut State<'_, '_>,
-    ) -> Result<Turn, DecodeFault>
+    ) -> Result<Pending, DecodeFault>
         requires left { frame.left ≡ left.Elements entry size count }
         requires frame { FrameFine (table self.now) (came self.now) frame }
         requires holds { Holds self.now state.old }
@@ -265,8 +278,8 @@ impl<'t, 'm, 's> Frames<'t, 'm, 's> {
         requires ready { CanReadFrame self.now state.old frame }
         requires budget { state.old.steps + turn_work (came self.now) state.old.next frame < 2 ^ 40 }
         ensures holds { Holds self.now state.new }
-        ensures ok { IfOk result (λ turn. Turns (table self.now) (message self.now) frame
-            (at_of state.old) (at_of state.new) (state.new.steps - state.old.steps) turn) }
+        ensures ok { IfOk result (λ left. Leaves (table self.now) (message self.now) frame
+            (at_of state.old) (at_of state.new) (state.new.steps - state.old.steps) left) }
         ensures rises { OnOk result (state.old.steps < state.new.steps) }
         ensures cost { state.new.steps ≤ state.old.steps + turn_work (came self.now) state.old.next
             frame }
@@ -274,14 +287,16 @@ impl<'t, 'm, 's> Frames<'t, 'm, 's> {
             frame (at_of state.old)) }
     {
         if count == 0 {
-            return self.read_items::<false>(frame, entry, size, count, state);
+            let turn = self.read_items::<false>(frame, entry, size, count, state)?;
+            return Ok(Pending { under: None, turn });
         }
         let e = self.decoder.entry(entry);
-        match EntryKind::from_number(e.kind) {
-            Some(EntryKind::Struct) => self.take_structs(frame, entry, size, count, state),
-            Some(EntryKind::Table) => { self.read_items::<true>(frame, entry, size, count, state) }
-            _ => self.read_items::<false>(frame, entry, size, count, state),
-        }
+        let turn = match EntryKind::from_number(e.kind) {
+            Some(EntryKind::Struct) => return self.take_structs(frame, entry, size, count, state),
+            Some(EntryKind::Table) => self.read_items::<true>(frame, entry, size, count, state)?,
+            _ => self.read_items::<false>(frame, entry, size, count, state)?,
+        };
+        Ok(Pending { under: None, turn })
     }
 
     /// Reads a frame in place, and what it holds, up to a frame that holds another: that one, where
@@ -290,15 +305,15 @@ impl<'t, 'm, 's> Frames<'t, 'm, 's> {
         &self,
         frame: Frame,
         state: &mut State<'_, '_>,
-    ) -> Result<Turn, DecodeFault>
+    ) -> Result<Pending, DecodeFault>
         requires frame { FrameFine (table self.now) (came self.now) frame }
         requires holds { Holds self.now state.old }
         requires state { StateFine (message self.now) (at_of state.old) }
         requires ready { CanReadFrame self.now state.old frame }
         requires budget { state.old.steps + turn_work (came self.now) state.old.next frame < 2 ^ 40 }
         ensures holds { Holds self.now state.new }
-        ensures ok { IfOk result (λ turn. Turns (table self.now) (message self.now) frame
-            (at_of state.old) (at_of state.new) (state.new.steps - state.old.steps) turn) }
+        ensures ok { IfOk result (λ left. Leaves (table self.now) (message self.now) frame
+            (at_of state.old) (at_of state.new) (state.new.steps - state.old.steps) left) }
         ensures rises { OnOk result (state.old.steps < state.new.steps) }
         ensures cost { state.new.steps ≤ state.old.steps + turn_work (came self.now) state.old.next
             frame }
@@ -308,20 +323,30 @@ impl<'t, 'm, 's> Frames<'t, 'm, 's> {
         let mut rest = frame;
         loop {
             let Some(now) = self.read_next_leaves(rest, state)? else {
-                return Ok(Turn {
-                    below: None,
-                    rest: None,
+                return Ok(Pending {
+                    under: None,
+                    turn: Turn {
+                        below: None,
+                        rest: None,
+                    },
                 });
             };
-            let turn = self.take_member(now, state)?;
+            let left = self.take_member(now, state)?;
+            let None = left.under else {
+                return Ok(left);
+            };
+            let turn = left.turn;
             let Some(after) = turn.rest else {
-                return Ok(turn);
+                return Ok(Pending { under: None, turn });
             };
             if is_over(&after) {
                 let Some(below) = turn.below else {
-                    return Ok(Turn {
-                        below: None,
-                        rest: None,
+                    return Ok(Pending {
+                        under: None,
+                        turn: Turn {
+                            below: None,
+                            rest: None,
+                        },
                     });
                 };
                 rest = below;
@@ -335,9 +360,12 @@ impl<'t, 'm, 's> Frames<'t, 'm, 's> {
                 rest = after;
                 continue;
             };
-            return Ok(Turn {
-                below: Some(inner),
-                rest: Some(after),
+            return Ok(Pending {
+                under: None,
+                turn: Turn {
+                    below: Some(inner),
+                    rest: Some(after),
+                },
             });
         }
     }

@@ -1,6 +1,7 @@
 use Rattle.fidl_decode_values.specs.Reading.{message}
 use Rattle.std.proofs.Common.{◌≡◌, ℕ, ◌+◌, ◌-◌, ◌≤◌, sym, ap, subst, ◌∙◌, arith}
-use Rattle.std.specs.Prelude.{Option, Some}
+use Rattle.std.specs.Prelude.{Option, Some, None}
+use Rattle.fidl_decode_model.specs.declared.frame.Turn.{Turn}
 use Rattle.fidl_table_format.specs.declared.record.Entry.{Entry}
 use Rattle.fidl_decode_model.specs.declared.frame.Frame.{Frame}
 use Rattle.fidl_decode_model.specs.declared.frame.Remaining.TheVariants.{Elements}
@@ -74,8 +75,8 @@ overflow_add-done g c =
     c.args.entry c.args.size c.args.count c.loop-i.i c.loop-i.done c.loop-i.invariant.turns c.loop-i-test.true in
     record { fits = omega (arith, room.1, room.2) }
 
-pub returns-in-Some-clause-ok : goal.returns-in-Some-clause-ok
-returns-in-Some-clause-ok g c =
+pub read_rest-requires-clause-frame : goal.read_rest-requires-clause-frame
+read_rest-requires-clause-frame g c =
     let so_far = c.loop-i.invariant.steps in
     let taken = struct_taken c.args.self.now.decoder.table.now c.args.self.now.decoder.fine (message c.args.self.now.decoder) c.args.frame (at_of c.args.state.now) (at_of c.loop-i.state) (c.loop-i.state.steps - c.args.state.now.steps)
     c.args.entry c.args.size c.args.count c.loop-i.i c.loop-i.done c.loop-i.invariant.turns c.loop-i-test.true
@@ -85,14 +86,174 @@ returns-in-Some-clause-ok g c =
     (struct_frame c.entry-e.result (c.args.frame.base + c.loop-i.done) c.args.frame.depth c.args.frame.in_envelope) (at_of c.loop-i.state)
     (at_of c.read_struct_element.new.state) (c.read_struct_element.new.state.steps - (c.loop-i.state.steps + 1)) (left_over o)) c.in-Some.is
     c.in_ok-found.ensures.ok in
-    turns_below c.args.self.now.decoder.table.now (message c.args.self.now.decoder) c.args.frame (at_of c.args.state.now) (at_of c.loop-i.state)
+    let held : Turns c.args.self.now.decoder.table.now (message c.args.self.now.decoder) c.args.frame (at_of c.args.state.now) (at_of c.read_struct_element.new.state)
+    (c.read_struct_element.new.state.steps - c.args.state.now.steps) (record {
+      below = Some c.in-Some.inner;
+      rest = Some
+          (going_on (going_on c.args.frame (Elements c.args.entry c.args.size (c.args.count - c.loop-i.i)) c.loop-i.done) (Elements c.args.entry c.args.size (c.args.count - (c.loop-i.i + 1))) (c.loop-i.done + c.args.size));
+    }) = turns_below c.args.self.now.decoder.table.now (message c.args.self.now.decoder) c.args.frame (at_of c.args.state.now) (at_of c.loop-i.state)
     (c.loop-i.state.steps + 1 - c.args.state.now.steps) (struct_frame c.entry-e.result (c.args.frame.base + c.loop-i.done) c.args.frame.depth
     c.args.frame.in_envelope) (going_on (going_on c.args.frame (Elements c.args.entry c.args.size (c.args.count - c.loop-i.i)) c.loop-i.done)
     (Elements c.args.entry c.args.size (c.args.count - (c.loop-i.i + 1))) (c.loop-i.done + c.args.size)) taken (at_of c.read_struct_element.new.state) _ _
-    (Some c.in-Some.inner) (omega (arith, so_far, on)) read
+    (Some c.in-Some.inner) (omega (arith, so_far, on)) read in
+    held.below_fine.0
 
-pub loop-i-preserved : goal.loop-i-preserved
-loop-i-preserved g c =
+pub read_rest-requires-clause-ready : goal.read_rest-requires-clause-ready
+read_rest-requires-clause-ready g c =
+    let so_far = c.loop-i.invariant.steps in
+    let taken = struct_taken c.args.self.now.decoder.table.now c.args.self.now.decoder.fine (message c.args.self.now.decoder) c.args.frame (at_of c.args.state.now) (at_of c.loop-i.state) (c.loop-i.state.steps - c.args.state.now.steps)
+    c.args.entry c.args.size c.args.count c.loop-i.i c.loop-i.done c.loop-i.invariant.turns c.loop-i-test.true
+    c.entry-e.result c.entry-e.ensures.value c.requires.entry c.requires.kind c.requires.frame (c.loop-i.state.steps + 1 - c.args.state.now.steps) (omega (arith, so_far)) in
+    let on = c.in_ok-found.ensures.grows in
+    let read = subst (λ (o : Option Frame). Turns c.args.self.now.decoder.table.now (message c.args.self.now.decoder)
+    (struct_frame c.entry-e.result (c.args.frame.base + c.loop-i.done) c.args.frame.depth c.args.frame.in_envelope) (at_of c.loop-i.state)
+    (at_of c.read_struct_element.new.state) (c.read_struct_element.new.state.steps - (c.loop-i.state.steps + 1)) (left_over o)) c.in-Some.is
+    c.in_ok-found.ensures.ok in
+    let held : Turns c.args.self.now.decoder.table.now (message c.args.self.now.decoder) c.args.frame (at_of c.args.state.now) (at_of c.read_struct_element.new.state)
+    (c.read_struct_element.new.state.steps - c.args.state.now.steps) (record {
+      below = Some c.in-Some.inner;
+      rest = Some
+          (going_on (going_on c.args.frame (Elements c.args.entry c.args.size (c.args.count - c.loop-i.i)) c.loop-i.done) (Elements c.args.entry c.args.size (c.args.count - (c.loop-i.i + 1))) (c.loop-i.done + c.args.size));
+    }) = turns_below c.args.self.now.decoder.table.now (message c.args.self.now.decoder) c.args.frame (at_of c.args.state.now) (at_of c.loop-i.state)
+    (c.loop-i.state.steps + 1 - c.args.state.now.steps) (struct_frame c.entry-e.result (c.args.frame.base + c.loop-i.done) c.args.frame.depth
+    c.args.frame.in_envelope) (going_on (going_on c.args.frame (Elements c.args.entry c.args.size (c.args.count - c.loop-i.i)) c.loop-i.done)
+    (Elements c.args.entry c.args.size (c.args.count - (c.loop-i.i + 1))) (c.loop-i.done + c.args.size)) taken (at_of c.read_struct_element.new.state) _ _
+    (Some c.in-Some.inner) (omega (arith, so_far, on)) read in
+    let p = held.moves c.requires.ready.0 c.requires.ready.1 in
+    (p.ahead, p.below_clear)
+
+pub read_rest-requires-clause-budget : goal.read_rest-requires-clause-budget
+read_rest-requires-clause-budget g c =
+    let so_far = c.loop-i.invariant.steps in
+    let taken = struct_taken c.args.self.now.decoder.table.now c.args.self.now.decoder.fine (message c.args.self.now.decoder) c.args.frame (at_of c.args.state.now) (at_of c.loop-i.state) (c.loop-i.state.steps - c.args.state.now.steps)
+    c.args.entry c.args.size c.args.count c.loop-i.i c.loop-i.done c.loop-i.invariant.turns c.loop-i-test.true
+    c.entry-e.result c.entry-e.ensures.value c.requires.entry c.requires.kind c.requires.frame (c.loop-i.state.steps + 1 - c.args.state.now.steps) (omega (arith, so_far)) in
+    let on = c.in_ok-found.ensures.grows in
+    let read = subst (λ (o : Option Frame). Turns c.args.self.now.decoder.table.now (message c.args.self.now.decoder)
+    (struct_frame c.entry-e.result (c.args.frame.base + c.loop-i.done) c.args.frame.depth c.args.frame.in_envelope) (at_of c.loop-i.state)
+    (at_of c.read_struct_element.new.state) (c.read_struct_element.new.state.steps - (c.loop-i.state.steps + 1)) (left_over o)) c.in-Some.is
+    c.in_ok-found.ensures.ok in
+    let held : Turns c.args.self.now.decoder.table.now (message c.args.self.now.decoder) c.args.frame (at_of c.args.state.now) (at_of c.read_struct_element.new.state)
+    (c.read_struct_element.new.state.steps - c.args.state.now.steps) (record {
+      below = Some c.in-Some.inner;
+      rest = Some
+          (going_on (going_on c.args.frame (Elements c.args.entry c.args.size (c.args.count - c.loop-i.i)) c.loop-i.done) (Elements c.args.entry c.args.size (c.args.count - (c.loop-i.i + 1))) (c.loop-i.done + c.args.size));
+    }) = turns_below c.args.self.now.decoder.table.now (message c.args.self.now.decoder) c.args.frame (at_of c.args.state.now) (at_of c.loop-i.state)
+    (c.loop-i.state.steps + 1 - c.args.state.now.steps) (struct_frame c.entry-e.result (c.args.frame.base + c.loop-i.done) c.args.frame.depth
+    c.args.frame.in_envelope) (going_on (going_on c.args.frame (Elements c.args.entry c.args.size (c.args.count - c.loop-i.i)) c.loop-i.done)
+    (Elements c.args.entry c.args.size (c.args.count - (c.loop-i.i + 1))) (c.loop-i.done + c.args.size)) taken (at_of c.read_struct_element.new.state) _ _
+    (Some c.in-Some.inner) (omega (arith, so_far, on)) read in
+    let less = held.less in
+    omega (arith, less, so_far, on, c.requires.budget)
+
+pub returns-in_err-turn-clause-cost : goal.returns-in_err-turn-clause-cost
+returns-in_err-turn-clause-cost g c =
+    let so_far = c.loop-i.invariant.steps in
+    let taken = struct_taken c.args.self.now.decoder.table.now c.args.self.now.decoder.fine (message c.args.self.now.decoder) c.args.frame (at_of c.args.state.now) (at_of c.loop-i.state) (c.loop-i.state.steps - c.args.state.now.steps)
+    c.args.entry c.args.size c.args.count c.loop-i.i c.loop-i.done c.loop-i.invariant.turns c.loop-i-test.true
+    c.entry-e.result c.entry-e.ensures.value c.requires.entry c.requires.kind c.requires.frame (c.loop-i.state.steps + 1 - c.args.state.now.steps) (omega (arith, so_far)) in
+    let on = c.in_ok-found.ensures.grows in
+    let read = subst (λ (o : Option Frame). Turns c.args.self.now.decoder.table.now (message c.args.self.now.decoder)
+    (struct_frame c.entry-e.result (c.args.frame.base + c.loop-i.done) c.args.frame.depth c.args.frame.in_envelope) (at_of c.loop-i.state)
+    (at_of c.read_struct_element.new.state) (c.read_struct_element.new.state.steps - (c.loop-i.state.steps + 1)) (left_over o)) c.in-Some.is
+    c.in_ok-found.ensures.ok in
+    let held : Turns c.args.self.now.decoder.table.now (message c.args.self.now.decoder) c.args.frame (at_of c.args.state.now) (at_of c.read_struct_element.new.state)
+    (c.read_struct_element.new.state.steps - c.args.state.now.steps) (record {
+      below = Some c.in-Some.inner;
+      rest = Some
+          (going_on (going_on c.args.frame (Elements c.args.entry c.args.size (c.args.count - c.loop-i.i)) c.loop-i.done) (Elements c.args.entry c.args.size (c.args.count - (c.loop-i.i + 1))) (c.loop-i.done + c.args.size));
+    }) = turns_below c.args.self.now.decoder.table.now (message c.args.self.now.decoder) c.args.frame (at_of c.args.state.now) (at_of c.loop-i.state)
+    (c.loop-i.state.steps + 1 - c.args.state.now.steps) (struct_frame c.entry-e.result (c.args.frame.base + c.loop-i.done) c.args.frame.depth
+    c.args.frame.in_envelope) (going_on (going_on c.args.frame (Elements c.args.entry c.args.size (c.args.count - c.loop-i.i)) c.loop-i.done)
+    (Elements c.args.entry c.args.size (c.args.count - (c.loop-i.i + 1))) (c.loop-i.done + c.args.size)) taken (at_of c.read_struct_element.new.state) _ _
+    (Some c.in-Some.inner) (omega (arith, so_far, on)) read in
+    let less = held.less in
+    omega (arith, less, so_far, on, c.in_err-turn.ensures.cost)
+
+pub returns-in_err-turn-clause-fault_is_true : goal.returns-in_err-turn-clause-fault_is_true
+returns-in_err-turn-clause-fault_is_true g c =
+    let so_far = c.loop-i.invariant.steps in
+    let taken = struct_taken c.args.self.now.decoder.table.now c.args.self.now.decoder.fine (message c.args.self.now.decoder) c.args.frame (at_of c.args.state.now) (at_of c.loop-i.state) (c.loop-i.state.steps - c.args.state.now.steps)
+    c.args.entry c.args.size c.args.count c.loop-i.i c.loop-i.done c.loop-i.invariant.turns c.loop-i-test.true
+    c.entry-e.result c.entry-e.ensures.value c.requires.entry c.requires.kind c.requires.frame (c.loop-i.state.steps + 1 - c.args.state.now.steps) (omega (arith, so_far)) in
+    let on = c.in_ok-found.ensures.grows in
+    let read = subst (λ (o : Option Frame). Turns c.args.self.now.decoder.table.now (message c.args.self.now.decoder)
+    (struct_frame c.entry-e.result (c.args.frame.base + c.loop-i.done) c.args.frame.depth c.args.frame.in_envelope) (at_of c.loop-i.state)
+    (at_of c.read_struct_element.new.state) (c.read_struct_element.new.state.steps - (c.loop-i.state.steps + 1)) (left_over o)) c.in-Some.is
+    c.in_ok-found.ensures.ok in
+    let held : Turns c.args.self.now.decoder.table.now (message c.args.self.now.decoder) c.args.frame (at_of c.args.state.now) (at_of c.read_struct_element.new.state)
+    (c.read_struct_element.new.state.steps - c.args.state.now.steps) (record {
+      below = Some c.in-Some.inner;
+      rest = Some
+          (going_on (going_on c.args.frame (Elements c.args.entry c.args.size (c.args.count - c.loop-i.i)) c.loop-i.done) (Elements c.args.entry c.args.size (c.args.count - (c.loop-i.i + 1))) (c.loop-i.done + c.args.size));
+    }) = turns_below c.args.self.now.decoder.table.now (message c.args.self.now.decoder) c.args.frame (at_of c.args.state.now) (at_of c.loop-i.state)
+    (c.loop-i.state.steps + 1 - c.args.state.now.steps) (struct_frame c.entry-e.result (c.args.frame.base + c.loop-i.done) c.args.frame.depth
+    c.args.frame.in_envelope) (going_on (going_on c.args.frame (Elements c.args.entry c.args.size (c.args.count - c.loop-i.i)) c.loop-i.done)
+    (Elements c.args.entry c.args.size (c.args.count - (c.loop-i.i + 1))) (c.loop-i.done + c.args.size)) taken (at_of c.read_struct_element.new.state) _ _
+    (Some c.in-Some.inner) (omega (arith, so_far, on)) read in
+    passed_on c.from_residual-in_err-turn.result c.in_err-turn.field-0.0 _ c.from_residual-in_err-turn.ensures.1
+    (below_breaks c.args.self.now.decoder.table.now (message c.args.self.now.decoder) c.args.frame (at_of c.args.state.now) (at_of c.read_struct_element.new.state)
+    (c.read_struct_element.new.state.steps - c.args.state.now.steps) c.in-Some.inner
+    (going_on (going_on c.args.frame (Elements c.args.entry c.args.size (c.args.count - c.loop-i.i)) c.loop-i.done) (Elements c.args.entry c.args.size (c.args.count - (c.loop-i.i + 1))) (c.loop-i.done + c.args.size)) held _ c.in_err-turn.ensures.fault_is_true)
+
+pub returns-in-loop-i-clause-ok : goal.returns-in-loop-i-clause-ok
+returns-in-loop-i-clause-ok g c =
+    let so_far = c.loop-i.invariant.steps in
+    let taken = struct_taken c.args.self.now.decoder.table.now c.args.self.now.decoder.fine (message c.args.self.now.decoder) c.args.frame (at_of c.args.state.now) (at_of c.loop-i.state) (c.loop-i.state.steps - c.args.state.now.steps)
+    c.args.entry c.args.size c.args.count c.loop-i.i c.loop-i.done c.loop-i.invariant.turns c.loop-i-test.true
+    c.entry-e.result c.entry-e.ensures.value c.requires.entry c.requires.kind c.requires.frame (c.loop-i.state.steps + 1 - c.args.state.now.steps) (omega (arith, so_far)) in
+    let on = c.in_ok-found.ensures.grows in
+    let read = subst (λ (o : Option Frame). Turns c.args.self.now.decoder.table.now (message c.args.self.now.decoder)
+    (struct_frame c.entry-e.result (c.args.frame.base + c.loop-i.done) c.args.frame.depth c.args.frame.in_envelope) (at_of c.loop-i.state)
+    (at_of c.read_struct_element.new.state) (c.read_struct_element.new.state.steps - (c.loop-i.state.steps + 1)) (left_over o)) c.in-Some.is
+    c.in_ok-found.ensures.ok in
+    let held : Turns c.args.self.now.decoder.table.now (message c.args.self.now.decoder) c.args.frame (at_of c.args.state.now) (at_of c.read_struct_element.new.state)
+    (c.read_struct_element.new.state.steps - c.args.state.now.steps) (record {
+      below = Some c.in-Some.inner;
+      rest = Some
+          (going_on (going_on c.args.frame (Elements c.args.entry c.args.size (c.args.count - c.loop-i.i)) c.loop-i.done) (Elements c.args.entry c.args.size (c.args.count - (c.loop-i.i + 1))) (c.loop-i.done + c.args.size));
+    }) = turns_below c.args.self.now.decoder.table.now (message c.args.self.now.decoder) c.args.frame (at_of c.args.state.now) (at_of c.loop-i.state)
+    (c.loop-i.state.steps + 1 - c.args.state.now.steps) (struct_frame c.entry-e.result (c.args.frame.base + c.loop-i.done) c.args.frame.depth
+    c.args.frame.in_envelope) (going_on (going_on c.args.frame (Elements c.args.entry c.args.size (c.args.count - c.loop-i.i)) c.loop-i.done)
+    (Elements c.args.entry c.args.size (c.args.count - (c.loop-i.i + 1))) (c.loop-i.done + c.args.size)) taken (at_of c.read_struct_element.new.state) _ _
+    (Some c.in-Some.inner) (omega (arith, so_far, on)) read in
+    let more = c.in_ok-turn.ensures.grows in
+    record {
+      above = c.in-Some.inner;
+      mid = at_of c.read_struct_element.new.state;
+      before = c.read_struct_element.new.state.steps - c.args.state.now.steps;
+      behind = c.read_rest.new.state.steps - c.read_struct_element.new.state.steps;
+      all = omega (arith, so_far, on, more);
+      up_to = held;
+      turns = c.in_ok-turn.ensures.ok;
+    }
+
+pub returns-in-loop-i-clause-cost : goal.returns-in-loop-i-clause-cost
+returns-in-loop-i-clause-cost g c =
+    let so_far = c.loop-i.invariant.steps in
+    let taken = struct_taken c.args.self.now.decoder.table.now c.args.self.now.decoder.fine (message c.args.self.now.decoder) c.args.frame (at_of c.args.state.now) (at_of c.loop-i.state) (c.loop-i.state.steps - c.args.state.now.steps)
+    c.args.entry c.args.size c.args.count c.loop-i.i c.loop-i.done c.loop-i.invariant.turns c.loop-i-test.true
+    c.entry-e.result c.entry-e.ensures.value c.requires.entry c.requires.kind c.requires.frame (c.loop-i.state.steps + 1 - c.args.state.now.steps) (omega (arith, so_far)) in
+    let on = c.in_ok-found.ensures.grows in
+    let read = subst (λ (o : Option Frame). Turns c.args.self.now.decoder.table.now (message c.args.self.now.decoder)
+    (struct_frame c.entry-e.result (c.args.frame.base + c.loop-i.done) c.args.frame.depth c.args.frame.in_envelope) (at_of c.loop-i.state)
+    (at_of c.read_struct_element.new.state) (c.read_struct_element.new.state.steps - (c.loop-i.state.steps + 1)) (left_over o)) c.in-Some.is
+    c.in_ok-found.ensures.ok in
+    let held : Turns c.args.self.now.decoder.table.now (message c.args.self.now.decoder) c.args.frame (at_of c.args.state.now) (at_of c.read_struct_element.new.state)
+    (c.read_struct_element.new.state.steps - c.args.state.now.steps) (record {
+      below = Some c.in-Some.inner;
+      rest = Some
+          (going_on (going_on c.args.frame (Elements c.args.entry c.args.size (c.args.count - c.loop-i.i)) c.loop-i.done) (Elements c.args.entry c.args.size (c.args.count - (c.loop-i.i + 1))) (c.loop-i.done + c.args.size));
+    }) = turns_below c.args.self.now.decoder.table.now (message c.args.self.now.decoder) c.args.frame (at_of c.args.state.now) (at_of c.loop-i.state)
+    (c.loop-i.state.steps + 1 - c.args.state.now.steps) (struct_frame c.entry-e.result (c.args.frame.base + c.loop-i.done) c.args.frame.depth
+    c.args.frame.in_envelope) (going_on (going_on c.args.frame (Elements c.args.entry c.args.size (c.args.count - c.loop-i.i)) c.loop-i.done)
+    (Elements c.args.entry c.args.size (c.args.count - (c.loop-i.i + 1))) (c.loop-i.done + c.args.size)) taken (at_of c.read_struct_element.new.state) _ _
+    (Some c.in-Some.inner) (omega (arith, so_far, on)) read in
+    let less = held.less in
+    omega (arith, less, so_far, on, c.in_ok-turn.ensures.cost)
+
+pub loop-i-preserved-in_default : goal.loop-i-preserved-in_default
+loop-i-preserved-in_default g c =
     let so_far = c.loop-i.invariant.steps in
     let taken = struct_taken c.args.self.now.decoder.table.now c.args.self.now.decoder.fine (message c.args.self.now.decoder) c.args.frame (at_of c.args.state.now) (at_of c.loop-i.state) (c.loop-i.state.steps - c.args.state.now.steps)
     c.args.entry c.args.size c.args.count c.loop-i.i c.loop-i.done c.loop-i.invariant.turns c.loop-i-test.true
@@ -111,6 +272,38 @@ loop-i-preserved g c =
           (Elements c.args.entry c.args.size (c.args.count - (c.loop-i.i + 1))) (c.loop-i.done + c.args.size)) taken (at_of c.read_struct_element.new.state) _ _
           (omega (arith, so_far, on)) read;
       steps = omega (arith, so_far, on);
+    }
+
+pub loop-i-preserved : goal.loop-i-preserved
+loop-i-preserved g c =
+    let so_far = c.loop-i.invariant.steps in
+    let taken = struct_taken c.args.self.now.decoder.table.now c.args.self.now.decoder.fine (message c.args.self.now.decoder) c.args.frame (at_of c.args.state.now) (at_of c.loop-i.state) (c.loop-i.state.steps - c.args.state.now.steps)
+    c.args.entry c.args.size c.args.count c.loop-i.i c.loop-i.done c.loop-i.invariant.turns c.loop-i-test.true
+    c.entry-e.result c.entry-e.ensures.value c.requires.entry c.requires.kind c.requires.frame (c.loop-i.state.steps + 1 - c.args.state.now.steps) (omega (arith, so_far)) in
+    let on = c.in_ok-found.ensures.grows in
+    let read = subst (λ (o : Option Frame). Turns c.args.self.now.decoder.table.now (message c.args.self.now.decoder)
+    (struct_frame c.entry-e.result (c.args.frame.base + c.loop-i.done) c.args.frame.depth c.args.frame.in_envelope) (at_of c.loop-i.state)
+    (at_of c.read_struct_element.new.state) (c.read_struct_element.new.state.steps - (c.loop-i.state.steps + 1)) (left_over o)) c.in-Some.is
+    c.in_ok-found.ensures.ok in
+    let held : Turns c.args.self.now.decoder.table.now (message c.args.self.now.decoder) c.args.frame (at_of c.args.state.now) (at_of c.read_struct_element.new.state)
+    (c.read_struct_element.new.state.steps - c.args.state.now.steps) (record {
+      below = Some c.in-Some.inner;
+      rest = Some
+          (going_on (going_on c.args.frame (Elements c.args.entry c.args.size (c.args.count - c.loop-i.i)) c.loop-i.done) (Elements c.args.entry c.args.size (c.args.count - (c.loop-i.i + 1))) (c.loop-i.done + c.args.size));
+    }) = turns_below c.args.self.now.decoder.table.now (message c.args.self.now.decoder) c.args.frame (at_of c.args.state.now) (at_of c.loop-i.state)
+    (c.loop-i.state.steps + 1 - c.args.state.now.steps) (struct_frame c.entry-e.result (c.args.frame.base + c.loop-i.done) c.args.frame.depth
+    c.args.frame.in_envelope) (going_on (going_on c.args.frame (Elements c.args.entry c.args.size (c.args.count - c.loop-i.i)) c.loop-i.done)
+    (Elements c.args.entry c.args.size (c.args.count - (c.loop-i.i + 1))) (c.loop-i.done + c.args.size)) taken (at_of c.read_struct_element.new.state) _ _
+    (Some c.in-Some.inner) (omega (arith, so_far, on)) read in
+    let more = c.in_ok-turn.ensures.grows in
+    let nothing : c.in_ok-turn.turn ≡ left_over None = c.is_done.ensures.0 c.if-is_done.true in
+    let two = subst (λ (x : Turn). Turns c.args.self.now.decoder.table.now (message c.args.self.now.decoder) c.in-Some.inner (at_of c.read_struct_element.new.state) (at_of c.read_rest.new.state) (c.read_rest.new.state.steps - c.read_struct_element.new.state.steps) x) nothing c.in_ok-turn.ensures.ok in
+    record {
+      holds = c.read_rest.ensures.holds;
+      turns = turns_over c.args.self.now.decoder.table.now (message c.args.self.now.decoder) c.args.frame (at_of c.args.state.now) (at_of c.read_struct_element.new.state)
+          (c.read_struct_element.new.state.steps - c.args.state.now.steps) c.in-Some.inner
+          (going_on (going_on c.args.frame (Elements c.args.entry c.args.size (c.args.count - c.loop-i.i)) c.loop-i.done) (Elements c.args.entry c.args.size (c.args.count - (c.loop-i.i + 1))) (c.loop-i.done + c.args.size)) held (at_of c.read_rest.new.state) _ _ (omega (arith, so_far, on, more)) two;
+      steps = omega (arith, so_far, on, more);
     }
 
 pub overflow_add-behind : goal.overflow_add-behind
@@ -147,15 +340,6 @@ returns-clause-ok g c =
     over_turns c.args.self.now.decoder.table.now c.args.self.now.decoder.fine (message c.args.self.now.decoder) c.args.frame (at_of c.args.state.now) (at_of c.loop-i.state)
     (c.loop-i.state.steps - c.args.state.now.steps) (going_on c.args.frame (Elements c.args.entry c.args.size (c.args.count - c.loop-i.i))
     c.loop-i.done) c.loop-i.invariant.turns over tt _ (omega (arith, so_far)) (omega (arith, so_far)) c.in_ok-zeros_at.ensures.ok
-
-pub returns-in-Some-clause-cost : goal.returns-in-Some-clause-cost
-returns-in-Some-clause-cost g c =
-    let so_far = c.loop-i.invariant.steps in
-    let taken = struct_taken c.args.self.now.decoder.table.now c.args.self.now.decoder.fine (message c.args.self.now.decoder) c.args.frame (at_of c.args.state.now) (at_of c.loop-i.state) (c.loop-i.state.steps - c.args.state.now.steps)
-    c.args.entry c.args.size c.args.count c.loop-i.i c.loop-i.done c.loop-i.invariant.turns c.loop-i-test.true
-    c.entry-e.result c.entry-e.ensures.value c.requires.entry c.requires.kind c.requires.frame (c.loop-i.state.steps + 1 - c.args.state.now.steps) (omega (arith, so_far)) in
-    let less = taken.less in
-    omega (arith, less, so_far, c.in_ok-found.ensures.cost)
 
 pub loop-i-init : goal.loop-i-init
 loop-i-init g c =
@@ -222,8 +406,8 @@ overflow_cast-result g c =
     c.args.entry c.args.size c.args.count c.loop-i.i c.loop-i.done c.loop-i.invariant.turns c.loop-i-test.true in
     record { fits = omega (arith, room.1, room.2, c.args.self.now.decoder.short) }
 
-pub overflow_cast-result-in-Some : goal.overflow_cast-result-in-Some
-overflow_cast-result-in-Some g c =
+pub overflow_cast-result-in-loop-i : goal.overflow_cast-result-in-loop-i
+overflow_cast-result-in-loop-i g c =
     let room = struct_room c.args.self.now.decoder.table.now c.args.self.now.decoder.fine (message c.args.self.now.decoder) c.args.frame (at_of c.args.state.now) (at_of c.loop-i.state) (c.loop-i.state.steps - c.args.state.now.steps)
     c.args.entry c.args.size c.args.count c.loop-i.i c.loop-i.done c.loop-i.invariant.turns c.loop-i-test.true in
     record { fits = omega (arith, room.1, room.2, c.args.self.now.decoder.short) }

@@ -8,6 +8,7 @@ use Rattle.fidl_decode_model.specs.Machine.{Turns, at_of}
 use Rattle.fidl_decode_model.proofs.Turning.{passed_on}
 use Rattle.fidl_decode_columns.proofs.Leaves.{left_over, turns_start, turns_then, turns_break, turns_below, turns_over, below_breaks}
 use Rattle.fidl_decode.proofs.Tail.{turns_tail, turns_done}
+use Rattle.fidl_decode.proofs.Leaving.{leaves_then, turn_alone}
 use Rattle.fidl_decode.proofs.frames.Frames.take_turn.Goals as goal
 
 pub loop-now-init : goal.loop-now-init
@@ -103,8 +104,8 @@ take_member-requires-clause-budget c =
     let less_now = held.less in
     omega (arith, less_now, so_far, grows, c.requires.budget)
 
-pub returns-in_err-turn-clause-cost : goal.returns-in_err-turn-clause-cost
-returns-in_err-turn-clause-cost c =
+pub returns-in_err-left-clause-cost : goal.returns-in_err-left-clause-cost
+returns-in_err-left-clause-cost c =
     let so_far = c.loop-now.invariant.steps in
     let grows = c.in_ok-now.ensures.grows in
     let two = subst (λ (o : Option Frame). Turns c.args.self.now.decoder.table.now (message c.args.self.now.decoder) c.loop-now.rest (at_of c.loop-now.state) (at_of c.read_next_leaves.new.state) (c.read_next_leaves.new.state.steps - c.loop-now.state.steps) (left_over o)) c.in-Some.is c.in_ok-now.ensures.ok in
@@ -114,7 +115,7 @@ returns-in_err-turn-clause-cost c =
     c.loop-now.rest c.loop-now.invariant.turns (at_of c.read_next_leaves.new.state) _ _ (left_over (Some c.in-Some.now)) (omega (arith, so_far, grows))
     two in
     let less_now = held.less in
-    omega (arith, less_now, so_far, grows, c.in_err-turn.ensures.cost)
+    omega (arith, less_now, so_far, grows, c.in_err-left.ensures.cost)
 
 pub returns-in_default-rest-clause-ok : goal.returns-in_default-rest-clause-ok
 returns-in_default-rest-clause-ok c =
@@ -126,17 +127,19 @@ returns-in_default-rest-clause-ok c =
     (message c.args.self.now.decoder) c.args.frame (at_of c.args.state.now) (at_of c.loop-now.state) (c.loop-now.state.steps - c.args.state.now.steps)
     c.loop-now.rest c.loop-now.invariant.turns (at_of c.read_next_leaves.new.state) _ _ (left_over (Some c.in-Some.now)) (omega (arith, so_far, grows))
     two in
-    let rises = c.in_ok-turn.ensures.rises in
+    let rises = c.in_ok-left.ensures.rises in
+    let own = turn_alone c.args.self.now.decoder.table.now (message c.args.self.now.decoder) c.in-Some.now (at_of c.read_next_leaves.new.state) (at_of c.take_member.new.state)
+    (c.take_member.new.state.steps - c.read_next_leaves.new.state.steps) c.in_ok-left.left.under c.in_ok-left.left.turn c.in-None.is c.in_ok-left.ensures.ok in
     let read : Turns c.args.self.now.decoder.table.now (message c.args.self.now.decoder) c.args.frame (at_of c.args.state.now) (at_of c.take_member.new.state)
-    (c.take_member.new.state.steps - c.args.state.now.steps) c.in_ok-turn.turn = turns_then c.args.self.now.decoder.table.now (message c.args.self.now.decoder)
+    (c.take_member.new.state.steps - c.args.state.now.steps) c.in_ok-left.left.turn = turns_then c.args.self.now.decoder.table.now (message c.args.self.now.decoder)
     c.args.frame (at_of c.args.state.now) (at_of c.read_next_leaves.new.state) (c.read_next_leaves.new.state.steps - c.args.state.now.steps) c.in-Some.now
-    held (at_of c.take_member.new.state) _ _ c.in_ok-turn.turn (omega (arith, so_far, grows, rises)) c.in_ok-turn.ensures.ok in
+    held (at_of c.take_member.new.state) _ _ c.in_ok-left.left.turn (omega (arith, so_far, grows, rises)) own in
     read
 
 pub returns-in_default-rest-clause-rises : goal.returns-in_default-rest-clause-rises
 returns-in_default-rest-clause-rises c =
     let so_far = c.loop-now.invariant.steps in
-    omega (arith, so_far, c.in_ok-now.ensures.grows, c.in_ok-turn.ensures.rises)
+    omega (arith, so_far, c.in_ok-now.ensures.grows, c.in_ok-left.ensures.rises)
 
 pub returns-in_default-rest-clause-cost : goal.returns-in_default-rest-clause-cost
 returns-in_default-rest-clause-cost c =
@@ -149,7 +152,7 @@ returns-in_default-rest-clause-cost c =
     c.loop-now.rest c.loop-now.invariant.turns (at_of c.read_next_leaves.new.state) _ _ (left_over (Some c.in-Some.now)) (omega (arith, so_far, grows))
     two in
     let less_now = held.less in
-    omega (arith, less_now, so_far, grows, c.in_ok-turn.ensures.cost)
+    omega (arith, less_now, so_far, grows, c.in_ok-left.ensures.cost)
 
 pub read_next_leaves-requires-in-loop-now-clause-frame : goal.read_next_leaves-requires-in-loop-now-clause-frame
 read_next_leaves-requires-in-loop-now-clause-frame c =
@@ -161,12 +164,14 @@ read_next_leaves-requires-in-loop-now-clause-frame c =
     (message c.args.self.now.decoder) c.args.frame (at_of c.args.state.now) (at_of c.loop-now.state) (c.loop-now.state.steps - c.args.state.now.steps)
     c.loop-now.rest c.loop-now.invariant.turns (at_of c.read_next_leaves.new.state) _ _ (left_over (Some c.in-Some.now)) (omega (arith, so_far, grows))
     two in
-    let rises = c.in_ok-turn.ensures.rises in
+    let rises = c.in_ok-left.ensures.rises in
+    let own = turn_alone c.args.self.now.decoder.table.now (message c.args.self.now.decoder) c.in-Some.now (at_of c.read_next_leaves.new.state) (at_of c.take_member.new.state)
+    (c.take_member.new.state.steps - c.read_next_leaves.new.state.steps) c.in_ok-left.left.under c.in_ok-left.left.turn c.in-None.is c.in_ok-left.ensures.ok in
     let read : Turns c.args.self.now.decoder.table.now (message c.args.self.now.decoder) c.args.frame (at_of c.args.state.now) (at_of c.take_member.new.state)
-    (c.take_member.new.state.steps - c.args.state.now.steps) c.in_ok-turn.turn = turns_then c.args.self.now.decoder.table.now (message c.args.self.now.decoder)
+    (c.take_member.new.state.steps - c.args.state.now.steps) c.in_ok-left.left.turn = turns_then c.args.self.now.decoder.table.now (message c.args.self.now.decoder)
     c.args.frame (at_of c.args.state.now) (at_of c.read_next_leaves.new.state) (c.read_next_leaves.new.state.steps - c.args.state.now.steps) c.in-Some.now
-    held (at_of c.take_member.new.state) _ _ c.in_ok-turn.turn (omega (arith, so_far, grows, rises)) c.in_ok-turn.ensures.ok in
-    let turn : c.in_ok-turn.turn ≡ record { below = Some c.in-Some-below-2.below; rest = Some c.in-Some-rest.after } = λ i. record { below = c.in-Some-below-2.is i; rest = c.in-Some-rest.is i } in
+    held (at_of c.take_member.new.state) _ _ c.in_ok-left.left.turn (omega (arith, so_far, grows, rises)) own in
+    let turn : c.in_ok-left.left.turn ≡ record { below = Some c.in-Some-below-2.below; rest = Some c.in-Some-rest.after } = λ i. record { below = c.in-Some-below-2.is i; rest = c.in-Some-rest.is i } in
     let both = subst (λ (x : Turn). Turns c.args.self.now.decoder.table.now (message c.args.self.now.decoder) c.args.frame (at_of c.args.state.now) (at_of c.take_member.new.state) (c.take_member.new.state.steps - c.args.state.now.steps) x) turn read in
     both.below_fine.0
 
@@ -180,12 +185,14 @@ read_next_leaves-requires-in-loop-now-clause-state c =
     (message c.args.self.now.decoder) c.args.frame (at_of c.args.state.now) (at_of c.loop-now.state) (c.loop-now.state.steps - c.args.state.now.steps)
     c.loop-now.rest c.loop-now.invariant.turns (at_of c.read_next_leaves.new.state) _ _ (left_over (Some c.in-Some.now)) (omega (arith, so_far, grows))
     two in
-    let rises = c.in_ok-turn.ensures.rises in
+    let rises = c.in_ok-left.ensures.rises in
+    let own = turn_alone c.args.self.now.decoder.table.now (message c.args.self.now.decoder) c.in-Some.now (at_of c.read_next_leaves.new.state) (at_of c.take_member.new.state)
+    (c.take_member.new.state.steps - c.read_next_leaves.new.state.steps) c.in_ok-left.left.under c.in_ok-left.left.turn c.in-None.is c.in_ok-left.ensures.ok in
     let read : Turns c.args.self.now.decoder.table.now (message c.args.self.now.decoder) c.args.frame (at_of c.args.state.now) (at_of c.take_member.new.state)
-    (c.take_member.new.state.steps - c.args.state.now.steps) c.in_ok-turn.turn = turns_then c.args.self.now.decoder.table.now (message c.args.self.now.decoder)
+    (c.take_member.new.state.steps - c.args.state.now.steps) c.in_ok-left.left.turn = turns_then c.args.self.now.decoder.table.now (message c.args.self.now.decoder)
     c.args.frame (at_of c.args.state.now) (at_of c.read_next_leaves.new.state) (c.read_next_leaves.new.state.steps - c.args.state.now.steps) c.in-Some.now
-    held (at_of c.take_member.new.state) _ _ c.in_ok-turn.turn (omega (arith, so_far, grows, rises)) c.in_ok-turn.ensures.ok in
-    let turn : c.in_ok-turn.turn ≡ record { below = Some c.in-Some-below-2.below; rest = Some c.in-Some-rest.after } = λ i. record { below = c.in-Some-below-2.is i; rest = c.in-Some-rest.is i } in
+    held (at_of c.take_member.new.state) _ _ c.in_ok-left.left.turn (omega (arith, so_far, grows, rises)) own in
+    let turn : c.in_ok-left.left.turn ≡ record { below = Some c.in-Some-below-2.below; rest = Some c.in-Some-rest.after } = λ i. record { below = c.in-Some-below-2.is i; rest = c.in-Some-rest.is i } in
     let both = subst (λ (x : Turn). Turns c.args.self.now.decoder.table.now (message c.args.self.now.decoder) c.args.frame (at_of c.args.state.now) (at_of c.take_member.new.state) (c.take_member.new.state.steps - c.args.state.now.steps) x) turn read in
     both.state
 
@@ -199,12 +206,14 @@ read_next_leaves-requires-in-loop-now-clause-budget c =
     (message c.args.self.now.decoder) c.args.frame (at_of c.args.state.now) (at_of c.loop-now.state) (c.loop-now.state.steps - c.args.state.now.steps)
     c.loop-now.rest c.loop-now.invariant.turns (at_of c.read_next_leaves.new.state) _ _ (left_over (Some c.in-Some.now)) (omega (arith, so_far, grows))
     two in
-    let rises = c.in_ok-turn.ensures.rises in
+    let rises = c.in_ok-left.ensures.rises in
+    let own = turn_alone c.args.self.now.decoder.table.now (message c.args.self.now.decoder) c.in-Some.now (at_of c.read_next_leaves.new.state) (at_of c.take_member.new.state)
+    (c.take_member.new.state.steps - c.read_next_leaves.new.state.steps) c.in_ok-left.left.under c.in_ok-left.left.turn c.in-None.is c.in_ok-left.ensures.ok in
     let read : Turns c.args.self.now.decoder.table.now (message c.args.self.now.decoder) c.args.frame (at_of c.args.state.now) (at_of c.take_member.new.state)
-    (c.take_member.new.state.steps - c.args.state.now.steps) c.in_ok-turn.turn = turns_then c.args.self.now.decoder.table.now (message c.args.self.now.decoder)
+    (c.take_member.new.state.steps - c.args.state.now.steps) c.in_ok-left.left.turn = turns_then c.args.self.now.decoder.table.now (message c.args.self.now.decoder)
     c.args.frame (at_of c.args.state.now) (at_of c.read_next_leaves.new.state) (c.read_next_leaves.new.state.steps - c.args.state.now.steps) c.in-Some.now
-    held (at_of c.take_member.new.state) _ _ c.in_ok-turn.turn (omega (arith, so_far, grows, rises)) c.in_ok-turn.ensures.ok in
-    let turn : c.in_ok-turn.turn ≡ record { below = Some c.in-Some-below-2.below; rest = Some c.in-Some-rest.after } = λ i. record { below = c.in-Some-below-2.is i; rest = c.in-Some-rest.is i } in
+    held (at_of c.take_member.new.state) _ _ c.in_ok-left.left.turn (omega (arith, so_far, grows, rises)) own in
+    let turn : c.in_ok-left.left.turn ≡ record { below = Some c.in-Some-below-2.below; rest = Some c.in-Some-rest.after } = λ i. record { below = c.in-Some-below-2.is i; rest = c.in-Some-rest.is i } in
     let both = subst (λ (x : Turn). Turns c.args.self.now.decoder.table.now (message c.args.self.now.decoder) c.args.frame (at_of c.args.state.now) (at_of c.take_member.new.state) (c.take_member.new.state.steps - c.args.state.now.steps) x) turn read in
     let less_both = both.less in
     omega (arith, less_both, so_far, grows, rises, c.requires.budget)
@@ -219,12 +228,14 @@ returns-in_err-inner-clause-cost c =
     (message c.args.self.now.decoder) c.args.frame (at_of c.args.state.now) (at_of c.loop-now.state) (c.loop-now.state.steps - c.args.state.now.steps)
     c.loop-now.rest c.loop-now.invariant.turns (at_of c.read_next_leaves.new.state) _ _ (left_over (Some c.in-Some.now)) (omega (arith, so_far, grows))
     two in
-    let rises = c.in_ok-turn.ensures.rises in
+    let rises = c.in_ok-left.ensures.rises in
+    let own = turn_alone c.args.self.now.decoder.table.now (message c.args.self.now.decoder) c.in-Some.now (at_of c.read_next_leaves.new.state) (at_of c.take_member.new.state)
+    (c.take_member.new.state.steps - c.read_next_leaves.new.state.steps) c.in_ok-left.left.under c.in_ok-left.left.turn c.in-None.is c.in_ok-left.ensures.ok in
     let read : Turns c.args.self.now.decoder.table.now (message c.args.self.now.decoder) c.args.frame (at_of c.args.state.now) (at_of c.take_member.new.state)
-    (c.take_member.new.state.steps - c.args.state.now.steps) c.in_ok-turn.turn = turns_then c.args.self.now.decoder.table.now (message c.args.self.now.decoder)
+    (c.take_member.new.state.steps - c.args.state.now.steps) c.in_ok-left.left.turn = turns_then c.args.self.now.decoder.table.now (message c.args.self.now.decoder)
     c.args.frame (at_of c.args.state.now) (at_of c.read_next_leaves.new.state) (c.read_next_leaves.new.state.steps - c.args.state.now.steps) c.in-Some.now
-    held (at_of c.take_member.new.state) _ _ c.in_ok-turn.turn (omega (arith, so_far, grows, rises)) c.in_ok-turn.ensures.ok in
-    let turn : c.in_ok-turn.turn ≡ record { below = Some c.in-Some-below-2.below; rest = Some c.in-Some-rest.after } = λ i. record { below = c.in-Some-below-2.is i; rest = c.in-Some-rest.is i } in
+    held (at_of c.take_member.new.state) _ _ c.in_ok-left.left.turn (omega (arith, so_far, grows, rises)) own in
+    let turn : c.in_ok-left.left.turn ≡ record { below = Some c.in-Some-below-2.below; rest = Some c.in-Some-rest.after } = λ i. record { below = c.in-Some-below-2.is i; rest = c.in-Some-rest.is i } in
     let both = subst (λ (x : Turn). Turns c.args.self.now.decoder.table.now (message c.args.self.now.decoder) c.args.frame (at_of c.args.state.now) (at_of c.take_member.new.state) (c.take_member.new.state.steps - c.args.state.now.steps) x) turn read in
     let less_both = both.less in
     omega (arith, less_both, so_far, grows, rises, c.in_err-inner.ensures.cost)
@@ -239,12 +250,14 @@ returns-in-loop-now-clause-ok c =
     (message c.args.self.now.decoder) c.args.frame (at_of c.args.state.now) (at_of c.loop-now.state) (c.loop-now.state.steps - c.args.state.now.steps)
     c.loop-now.rest c.loop-now.invariant.turns (at_of c.read_next_leaves.new.state) _ _ (left_over (Some c.in-Some.now)) (omega (arith, so_far, grows))
     two in
-    let rises = c.in_ok-turn.ensures.rises in
+    let rises = c.in_ok-left.ensures.rises in
+    let own = turn_alone c.args.self.now.decoder.table.now (message c.args.self.now.decoder) c.in-Some.now (at_of c.read_next_leaves.new.state) (at_of c.take_member.new.state)
+    (c.take_member.new.state.steps - c.read_next_leaves.new.state.steps) c.in_ok-left.left.under c.in_ok-left.left.turn c.in-None.is c.in_ok-left.ensures.ok in
     let read : Turns c.args.self.now.decoder.table.now (message c.args.self.now.decoder) c.args.frame (at_of c.args.state.now) (at_of c.take_member.new.state)
-    (c.take_member.new.state.steps - c.args.state.now.steps) c.in_ok-turn.turn = turns_then c.args.self.now.decoder.table.now (message c.args.self.now.decoder)
+    (c.take_member.new.state.steps - c.args.state.now.steps) c.in_ok-left.left.turn = turns_then c.args.self.now.decoder.table.now (message c.args.self.now.decoder)
     c.args.frame (at_of c.args.state.now) (at_of c.read_next_leaves.new.state) (c.read_next_leaves.new.state.steps - c.args.state.now.steps) c.in-Some.now
-    held (at_of c.take_member.new.state) _ _ c.in_ok-turn.turn (omega (arith, so_far, grows, rises)) c.in_ok-turn.ensures.ok in
-    let turn : c.in_ok-turn.turn ≡ record { below = Some c.in-Some-below-2.below; rest = Some c.in-Some-rest.after } = λ i. record { below = c.in-Some-below-2.is i; rest = c.in-Some-rest.is i } in
+    held (at_of c.take_member.new.state) _ _ c.in_ok-left.left.turn (omega (arith, so_far, grows, rises)) own in
+    let turn : c.in_ok-left.left.turn ≡ record { below = Some c.in-Some-below-2.below; rest = Some c.in-Some-rest.after } = λ i. record { below = c.in-Some-below-2.is i; rest = c.in-Some-rest.is i } in
     let both = subst (λ (x : Turn). Turns c.args.self.now.decoder.table.now (message c.args.self.now.decoder) c.args.frame (at_of c.args.state.now) (at_of c.take_member.new.state) (c.take_member.new.state.steps - c.args.state.now.steps) x) turn read in
     let on = c.in_ok-inner.ensures.grows in
     let three = subst (λ (o : Option Frame). Turns c.args.self.now.decoder.table.now (message c.args.self.now.decoder) c.in-Some-below-2.below
@@ -264,12 +277,14 @@ loop-now-preserved-in_default-below-2 c =
     (message c.args.self.now.decoder) c.args.frame (at_of c.args.state.now) (at_of c.loop-now.state) (c.loop-now.state.steps - c.args.state.now.steps)
     c.loop-now.rest c.loop-now.invariant.turns (at_of c.read_next_leaves.new.state) _ _ (left_over (Some c.in-Some.now)) (omega (arith, so_far, grows))
     two in
-    let rises = c.in_ok-turn.ensures.rises in
+    let rises = c.in_ok-left.ensures.rises in
+    let own = turn_alone c.args.self.now.decoder.table.now (message c.args.self.now.decoder) c.in-Some.now (at_of c.read_next_leaves.new.state) (at_of c.take_member.new.state)
+    (c.take_member.new.state.steps - c.read_next_leaves.new.state.steps) c.in_ok-left.left.under c.in_ok-left.left.turn c.in-None.is c.in_ok-left.ensures.ok in
     let read : Turns c.args.self.now.decoder.table.now (message c.args.self.now.decoder) c.args.frame (at_of c.args.state.now) (at_of c.take_member.new.state)
-    (c.take_member.new.state.steps - c.args.state.now.steps) c.in_ok-turn.turn = turns_then c.args.self.now.decoder.table.now (message c.args.self.now.decoder)
+    (c.take_member.new.state.steps - c.args.state.now.steps) c.in_ok-left.left.turn = turns_then c.args.self.now.decoder.table.now (message c.args.self.now.decoder)
     c.args.frame (at_of c.args.state.now) (at_of c.read_next_leaves.new.state) (c.read_next_leaves.new.state.steps - c.args.state.now.steps) c.in-Some.now
-    held (at_of c.take_member.new.state) _ _ c.in_ok-turn.turn (omega (arith, so_far, grows, rises)) c.in_ok-turn.ensures.ok in
-    let turn : c.in_ok-turn.turn ≡ left_over (Some c.in-Some-rest.after) = λ i. record { below = c.in_default-below-2.is i; rest = c.in-Some-rest.is i } in
+    held (at_of c.take_member.new.state) _ _ c.in_ok-left.left.turn (omega (arith, so_far, grows, rises)) own in
+    let turn : c.in_ok-left.left.turn ≡ left_over (Some c.in-Some-rest.after) = λ i. record { below = c.in_default-below-2.is i; rest = c.in-Some-rest.is i } in
     let alone = subst (λ (x : Turn). Turns c.args.self.now.decoder.table.now (message c.args.self.now.decoder) c.args.frame (at_of c.args.state.now) (at_of c.take_member.new.state) (c.take_member.new.state.steps - c.args.state.now.steps) x) turn read in
     record { holds = c.take_member.ensures.holds; turns = alone; steps = omega (arith, so_far, grows, rises) }
 
@@ -283,12 +298,14 @@ loop-now-preserved-then-is_over c =
     (message c.args.self.now.decoder) c.args.frame (at_of c.args.state.now) (at_of c.loop-now.state) (c.loop-now.state.steps - c.args.state.now.steps)
     c.loop-now.rest c.loop-now.invariant.turns (at_of c.read_next_leaves.new.state) _ _ (left_over (Some c.in-Some.now)) (omega (arith, so_far, grows))
     two in
-    let rises = c.in_ok-turn.ensures.rises in
+    let rises = c.in_ok-left.ensures.rises in
+    let own = turn_alone c.args.self.now.decoder.table.now (message c.args.self.now.decoder) c.in-Some.now (at_of c.read_next_leaves.new.state) (at_of c.take_member.new.state)
+    (c.take_member.new.state.steps - c.read_next_leaves.new.state.steps) c.in_ok-left.left.under c.in_ok-left.left.turn c.in-None.is c.in_ok-left.ensures.ok in
     let read : Turns c.args.self.now.decoder.table.now (message c.args.self.now.decoder) c.args.frame (at_of c.args.state.now) (at_of c.take_member.new.state)
-    (c.take_member.new.state.steps - c.args.state.now.steps) c.in_ok-turn.turn = turns_then c.args.self.now.decoder.table.now (message c.args.self.now.decoder)
+    (c.take_member.new.state.steps - c.args.state.now.steps) c.in_ok-left.left.turn = turns_then c.args.self.now.decoder.table.now (message c.args.self.now.decoder)
     c.args.frame (at_of c.args.state.now) (at_of c.read_next_leaves.new.state) (c.read_next_leaves.new.state.steps - c.args.state.now.steps) c.in-Some.now
-    held (at_of c.take_member.new.state) _ _ c.in_ok-turn.turn (omega (arith, so_far, grows, rises)) c.in_ok-turn.ensures.ok in
-    let turn : c.in_ok-turn.turn ≡ record { below = Some c.in-Some-below.below; rest = Some c.in-Some-rest.after } = λ i. record { below = c.in-Some-below.is i; rest = c.in-Some-rest.is i } in
+    held (at_of c.take_member.new.state) _ _ c.in_ok-left.left.turn (omega (arith, so_far, grows, rises)) own in
+    let turn : c.in_ok-left.left.turn ≡ record { below = Some c.in-Some-below.below; rest = Some c.in-Some-rest.after } = λ i. record { below = c.in-Some-below.is i; rest = c.in-Some-rest.is i } in
     let both = subst (λ (x : Turn). Turns c.args.self.now.decoder.table.now (message c.args.self.now.decoder) c.args.frame (at_of c.args.state.now) (at_of c.take_member.new.state) (c.take_member.new.state.steps - c.args.state.now.steps) x) turn read in
     let over = c.is_over.ensures.0 c.if-is_over.true in
     record {
@@ -309,12 +326,14 @@ loop-now-preserved c =
     (message c.args.self.now.decoder) c.args.frame (at_of c.args.state.now) (at_of c.loop-now.state) (c.loop-now.state.steps - c.args.state.now.steps)
     c.loop-now.rest c.loop-now.invariant.turns (at_of c.read_next_leaves.new.state) _ _ (left_over (Some c.in-Some.now)) (omega (arith, so_far, grows))
     two in
-    let rises = c.in_ok-turn.ensures.rises in
+    let rises = c.in_ok-left.ensures.rises in
+    let own = turn_alone c.args.self.now.decoder.table.now (message c.args.self.now.decoder) c.in-Some.now (at_of c.read_next_leaves.new.state) (at_of c.take_member.new.state)
+    (c.take_member.new.state.steps - c.read_next_leaves.new.state.steps) c.in_ok-left.left.under c.in_ok-left.left.turn c.in-None.is c.in_ok-left.ensures.ok in
     let read : Turns c.args.self.now.decoder.table.now (message c.args.self.now.decoder) c.args.frame (at_of c.args.state.now) (at_of c.take_member.new.state)
-    (c.take_member.new.state.steps - c.args.state.now.steps) c.in_ok-turn.turn = turns_then c.args.self.now.decoder.table.now (message c.args.self.now.decoder)
+    (c.take_member.new.state.steps - c.args.state.now.steps) c.in_ok-left.left.turn = turns_then c.args.self.now.decoder.table.now (message c.args.self.now.decoder)
     c.args.frame (at_of c.args.state.now) (at_of c.read_next_leaves.new.state) (c.read_next_leaves.new.state.steps - c.args.state.now.steps) c.in-Some.now
-    held (at_of c.take_member.new.state) _ _ c.in_ok-turn.turn (omega (arith, so_far, grows, rises)) c.in_ok-turn.ensures.ok in
-    let turn : c.in_ok-turn.turn ≡ record { below = Some c.in-Some-below-2.below; rest = Some c.in-Some-rest.after } = λ i. record { below = c.in-Some-below-2.is i; rest = c.in-Some-rest.is i } in
+    held (at_of c.take_member.new.state) _ _ c.in_ok-left.left.turn (omega (arith, so_far, grows, rises)) own in
+    let turn : c.in_ok-left.left.turn ≡ record { below = Some c.in-Some-below-2.below; rest = Some c.in-Some-rest.after } = λ i. record { below = c.in-Some-below-2.is i; rest = c.in-Some-rest.is i } in
     let both = subst (λ (x : Turn). Turns c.args.self.now.decoder.table.now (message c.args.self.now.decoder) c.args.frame (at_of c.args.state.now) (at_of c.take_member.new.state) (c.take_member.new.state.steps - c.args.state.now.steps) x) turn read in
     let on = c.in_ok-inner.ensures.grows in
     let three = subst (λ (o : Option Frame). Turns c.args.self.now.decoder.table.now (message c.args.self.now.decoder) c.in-Some-below-2.below
@@ -334,8 +353,8 @@ returns-in_err-now-clause-fault_is_true c =
     let h = (turns_break c.args.self.now.decoder.table.now (message c.args.self.now.decoder) c.args.frame (at_of c.args.state.now) (at_of c.loop-now.state)
     (c.loop-now.state.steps - c.args.state.now.steps) c.loop-now.rest c.loop-now.invariant.turns _ c.in_err-now.ensures.fault_is_true) in search (rules, h)
 
-pub returns-in_err-turn-clause-fault_is_true : goal.returns-in_err-turn-clause-fault_is_true
-returns-in_err-turn-clause-fault_is_true c =
+pub returns-in_err-left-clause-fault_is_true : goal.returns-in_err-left-clause-fault_is_true
+returns-in_err-left-clause-fault_is_true c =
     let so_far = c.loop-now.invariant.steps in
     let grows = c.in_ok-now.ensures.grows in
     let two = subst (λ (o : Option Frame). Turns c.args.self.now.decoder.table.now (message c.args.self.now.decoder) c.loop-now.rest (at_of c.loop-now.state) (at_of c.read_next_leaves.new.state) (c.read_next_leaves.new.state.steps - c.loop-now.state.steps) (left_over o)) c.in-Some.is c.in_ok-now.ensures.ok in
@@ -344,8 +363,8 @@ returns-in_err-turn-clause-fault_is_true c =
     (message c.args.self.now.decoder) c.args.frame (at_of c.args.state.now) (at_of c.loop-now.state) (c.loop-now.state.steps - c.args.state.now.steps)
     c.loop-now.rest c.loop-now.invariant.turns (at_of c.read_next_leaves.new.state) _ _ (left_over (Some c.in-Some.now)) (omega (arith, so_far, grows))
     two in
-    passed_on c.from_residual-in_err-turn.result c.in_err-turn.field-0.0 _ c.from_residual-in_err-turn.ensures.1
-    (turns_break c.args.self.now.decoder.table.now (message c.args.self.now.decoder) c.args.frame (at_of c.args.state.now) (at_of c.read_next_leaves.new.state) (c.read_next_leaves.new.state.steps - c.args.state.now.steps) c.in-Some.now held _ c.in_err-turn.ensures.fault_is_true)
+    passed_on c.from_residual-in_err-left.result c.in_err-left.field-0.0 _ c.from_residual-in_err-left.ensures.1
+    (turns_break c.args.self.now.decoder.table.now (message c.args.self.now.decoder) c.args.frame (at_of c.args.state.now) (at_of c.read_next_leaves.new.state) (c.read_next_leaves.new.state.steps - c.args.state.now.steps) c.in-Some.now held _ c.in_err-left.ensures.fault_is_true)
 
 pub returns-in_err-inner-clause-fault_is_true : goal.returns-in_err-inner-clause-fault_is_true
 returns-in_err-inner-clause-fault_is_true c =
@@ -357,12 +376,14 @@ returns-in_err-inner-clause-fault_is_true c =
     (message c.args.self.now.decoder) c.args.frame (at_of c.args.state.now) (at_of c.loop-now.state) (c.loop-now.state.steps - c.args.state.now.steps)
     c.loop-now.rest c.loop-now.invariant.turns (at_of c.read_next_leaves.new.state) _ _ (left_over (Some c.in-Some.now)) (omega (arith, so_far, grows))
     two in
-    let rises = c.in_ok-turn.ensures.rises in
+    let rises = c.in_ok-left.ensures.rises in
+    let own = turn_alone c.args.self.now.decoder.table.now (message c.args.self.now.decoder) c.in-Some.now (at_of c.read_next_leaves.new.state) (at_of c.take_member.new.state)
+    (c.take_member.new.state.steps - c.read_next_leaves.new.state.steps) c.in_ok-left.left.under c.in_ok-left.left.turn c.in-None.is c.in_ok-left.ensures.ok in
     let read : Turns c.args.self.now.decoder.table.now (message c.args.self.now.decoder) c.args.frame (at_of c.args.state.now) (at_of c.take_member.new.state)
-    (c.take_member.new.state.steps - c.args.state.now.steps) c.in_ok-turn.turn = turns_then c.args.self.now.decoder.table.now (message c.args.self.now.decoder)
+    (c.take_member.new.state.steps - c.args.state.now.steps) c.in_ok-left.left.turn = turns_then c.args.self.now.decoder.table.now (message c.args.self.now.decoder)
     c.args.frame (at_of c.args.state.now) (at_of c.read_next_leaves.new.state) (c.read_next_leaves.new.state.steps - c.args.state.now.steps) c.in-Some.now
-    held (at_of c.take_member.new.state) _ _ c.in_ok-turn.turn (omega (arith, so_far, grows, rises)) c.in_ok-turn.ensures.ok in
-    let turn : c.in_ok-turn.turn ≡ record { below = Some c.in-Some-below-2.below; rest = Some c.in-Some-rest.after } = λ i. record { below = c.in-Some-below-2.is i; rest = c.in-Some-rest.is i } in
+    held (at_of c.take_member.new.state) _ _ c.in_ok-left.left.turn (omega (arith, so_far, grows, rises)) own in
+    let turn : c.in_ok-left.left.turn ≡ record { below = Some c.in-Some-below-2.below; rest = Some c.in-Some-rest.after } = λ i. record { below = c.in-Some-below-2.is i; rest = c.in-Some-rest.is i } in
     let both = subst (λ (x : Turn). Turns c.args.self.now.decoder.table.now (message c.args.self.now.decoder) c.args.frame (at_of c.args.state.now) (at_of c.take_member.new.state) (c.take_member.new.state.steps - c.args.state.now.steps) x) turn read in
     passed_on c.from_residual-in_err-inner.result c.in_err-inner.field-0.0 _ c.from_residual-in_err-inner.ensures.1
     (below_breaks c.args.self.now.decoder.table.now (message c.args.self.now.decoder) c.args.frame (at_of c.args.state.now) (at_of c.take_member.new.state) (c.take_member.new.state.steps - c.args.state.now.steps)
@@ -378,12 +399,14 @@ read_next_leaves-requires-in-loop-now-clause-ready c =
     (message c.args.self.now.decoder) c.args.frame (at_of c.args.state.now) (at_of c.loop-now.state) (c.loop-now.state.steps - c.args.state.now.steps)
     c.loop-now.rest c.loop-now.invariant.turns (at_of c.read_next_leaves.new.state) _ _ (left_over (Some c.in-Some.now)) (omega (arith, so_far, grows))
     two in
-    let rises = c.in_ok-turn.ensures.rises in
+    let rises = c.in_ok-left.ensures.rises in
+    let own = turn_alone c.args.self.now.decoder.table.now (message c.args.self.now.decoder) c.in-Some.now (at_of c.read_next_leaves.new.state) (at_of c.take_member.new.state)
+    (c.take_member.new.state.steps - c.read_next_leaves.new.state.steps) c.in_ok-left.left.under c.in_ok-left.left.turn c.in-None.is c.in_ok-left.ensures.ok in
     let read : Turns c.args.self.now.decoder.table.now (message c.args.self.now.decoder) c.args.frame (at_of c.args.state.now) (at_of c.take_member.new.state)
-    (c.take_member.new.state.steps - c.args.state.now.steps) c.in_ok-turn.turn = turns_then c.args.self.now.decoder.table.now (message c.args.self.now.decoder)
+    (c.take_member.new.state.steps - c.args.state.now.steps) c.in_ok-left.left.turn = turns_then c.args.self.now.decoder.table.now (message c.args.self.now.decoder)
     c.args.frame (at_of c.args.state.now) (at_of c.read_next_leaves.new.state) (c.read_next_leaves.new.state.steps - c.args.state.now.steps) c.in-Some.now
-    held (at_of c.take_member.new.state) _ _ c.in_ok-turn.turn (omega (arith, so_far, grows, rises)) c.in_ok-turn.ensures.ok in
-    let turn : c.in_ok-turn.turn ≡ record { below = Some c.in-Some-below-2.below; rest = Some c.in-Some-rest.after } = λ i. record { below = c.in-Some-below-2.is i; rest = c.in-Some-rest.is i } in
+    held (at_of c.take_member.new.state) _ _ c.in_ok-left.left.turn (omega (arith, so_far, grows, rises)) own in
+    let turn : c.in_ok-left.left.turn ≡ record { below = Some c.in-Some-below-2.below; rest = Some c.in-Some-rest.after } = λ i. record { below = c.in-Some-below-2.is i; rest = c.in-Some-rest.is i } in
     let both = subst (λ (x : Turn). Turns c.args.self.now.decoder.table.now (message c.args.self.now.decoder) c.args.frame (at_of c.args.state.now) (at_of c.take_member.new.state) (c.take_member.new.state.steps - c.args.state.now.steps) x) turn read in
     let p = both.moves c.requires.ready.0 c.requires.ready.1 in
     (p.ahead, p.below_clear)
@@ -398,12 +421,28 @@ returns-in_default-below-clause-ok c =
     (message c.args.self.now.decoder) c.args.frame (at_of c.args.state.now) (at_of c.loop-now.state) (c.loop-now.state.steps - c.args.state.now.steps)
     c.loop-now.rest c.loop-now.invariant.turns (at_of c.read_next_leaves.new.state) _ _ (left_over (Some c.in-Some.now)) (omega (arith, so_far, grows))
     two in
-    let rises = c.in_ok-turn.ensures.rises in
+    let rises = c.in_ok-left.ensures.rises in
+    let own = turn_alone c.args.self.now.decoder.table.now (message c.args.self.now.decoder) c.in-Some.now (at_of c.read_next_leaves.new.state) (at_of c.take_member.new.state)
+    (c.take_member.new.state.steps - c.read_next_leaves.new.state.steps) c.in_ok-left.left.under c.in_ok-left.left.turn c.in-None.is c.in_ok-left.ensures.ok in
     let read : Turns c.args.self.now.decoder.table.now (message c.args.self.now.decoder) c.args.frame (at_of c.args.state.now) (at_of c.take_member.new.state)
-    (c.take_member.new.state.steps - c.args.state.now.steps) c.in_ok-turn.turn = turns_then c.args.self.now.decoder.table.now (message c.args.self.now.decoder)
+    (c.take_member.new.state.steps - c.args.state.now.steps) c.in_ok-left.left.turn = turns_then c.args.self.now.decoder.table.now (message c.args.self.now.decoder)
     c.args.frame (at_of c.args.state.now) (at_of c.read_next_leaves.new.state) (c.read_next_leaves.new.state.steps - c.args.state.now.steps) c.in-Some.now
-    held (at_of c.take_member.new.state) _ _ c.in_ok-turn.turn (omega (arith, so_far, grows, rises)) c.in_ok-turn.ensures.ok in
-    let turn : c.in_ok-turn.turn ≡ left_over (Some c.in-Some-rest.after) = λ i. record { below = c.in_default-below.is i; rest = c.in-Some-rest.is i } in
+    held (at_of c.take_member.new.state) _ _ c.in_ok-left.left.turn (omega (arith, so_far, grows, rises)) own in
+    let turn : c.in_ok-left.left.turn ≡ left_over (Some c.in-Some-rest.after) = λ i. record { below = c.in_default-below.is i; rest = c.in-Some-rest.is i } in
     let alone = subst (λ (x : Turn). Turns c.args.self.now.decoder.table.now (message c.args.self.now.decoder) c.args.frame (at_of c.args.state.now) (at_of c.take_member.new.state) (c.take_member.new.state.steps - c.args.state.now.steps) x) turn read in
     turns_done c.args.self.now.decoder.table.now c.args.self.now.decoder.fine (message c.args.self.now.decoder) c.args.frame c.in-Some-rest.after (at_of c.args.state.now) (at_of c.take_member.new.state)
     (c.take_member.new.state.steps - c.args.state.now.steps) alone (c.is_over.ensures.0 c.if-is_over.true)
+
+pub returns-in_default-under-clause-ok : goal.returns-in_default-under-clause-ok
+returns-in_default-under-clause-ok c =
+    let so_far = c.loop-now.invariant.steps in
+    let grows = c.in_ok-now.ensures.grows in
+    let two = subst (λ (o : Option Frame). Turns c.args.self.now.decoder.table.now (message c.args.self.now.decoder) c.loop-now.rest (at_of c.loop-now.state) (at_of c.read_next_leaves.new.state) (c.read_next_leaves.new.state.steps - c.loop-now.state.steps) (left_over o)) c.in-Some.is c.in_ok-now.ensures.ok in
+    let held : Turns c.args.self.now.decoder.table.now (message c.args.self.now.decoder) c.args.frame (at_of c.args.state.now) (at_of c.read_next_leaves.new.state)
+    (c.read_next_leaves.new.state.steps - c.args.state.now.steps) (left_over (Some c.in-Some.now)) = turns_then c.args.self.now.decoder.table.now
+    (message c.args.self.now.decoder) c.args.frame (at_of c.args.state.now) (at_of c.loop-now.state) (c.loop-now.state.steps - c.args.state.now.steps)
+    c.loop-now.rest c.loop-now.invariant.turns (at_of c.read_next_leaves.new.state) _ _ (left_over (Some c.in-Some.now)) (omega (arith, so_far, grows))
+    two in
+    let rises = c.in_ok-left.ensures.rises in
+    leaves_then c.args.self.now.decoder.table.now (message c.args.self.now.decoder) c.args.frame (at_of c.args.state.now) (at_of c.read_next_leaves.new.state) (c.read_next_leaves.new.state.steps - c.args.state.now.steps) c.in-Some.now held
+    (at_of c.take_member.new.state) _ _ (omega (arith, so_far, grows, rises)) c.in_ok-left.left.under c.in_ok-left.left.turn c.in_ok-left.ensures.ok
