@@ -6,6 +6,7 @@ pub mod Unlinked
 pub mod Placing
 pub mod Flags
 pub mod Leaving
+pub mod Onward
 pub mod Tail
 pub mod Last
 pub mod Front

@@ -24,6 +24,7 @@ abbrev pub LeavesIf : List ℕ → Message → Frame → (old new : Position) �
 LeavesIf t m f old new spent None turn = Turns t m f old new spent turn
 LeavesIf t m f old new spent (Some under) turn = LeavesUnder t m f old new spent under turn
 
+-- what reading a frame leaves stands for what was left of it: the frame under the turn is read last
 abbrev pub Leaves : List ℕ → Message → Frame → (old new : Position) → (spent : ℕ) → Pending
     → Type 0
 Leaves t m f old new spent p = LeavesIf t m f old new spent p.under p.turn

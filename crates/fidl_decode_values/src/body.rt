@@ -13,9 +13,9 @@ ghost use Rattle.fidl_decode_model.specs.Machine.{StateFine, FrameFine, Turns, a
 ghost use Rattle.fidl_decode_values.specs.Reading.{came, message, Holds};
 ghost use Rattle.fidl_decode_values.specs.Ready.{CanReadFrame};
 
-use crate::decoder::{Decoder, row_from};
+use crate::decoder::Decoder;
 use fidl_decode_model::frame::State;
-use fidl_table_format::{EntryKind, Row, read_entry};
+use fidl_table_format::{EntryKind, Row, read_entry, row_from};
 
 /// The envelopes of a table's value, and the rows that its entry has.
 #[derive(Clone, Copy, Drop)]

@@ -2,31 +2,15 @@
 ghost use Rattle.std.specs.Prelude.{◌≡◌, ◌+◌, ◌<◌, ◌≤◌, ℕ, length, slice_index};
 ghost use Rattle.fidl_limits.specs.declared.limits.TheConstants.{MAX_MESSAGE_BYTES};
 ghost use Rattle.fidl_limits.specs.declared.limits.TheConstants.{MAX_MESSAGE_HANDLES};
-ghost use Rattle.fidl_table_format.specs.declared.record.Header.{Header};
-ghost use Rattle.fidl_table_format.specs.Section.{header_of, row_at, row_place};
+ghost use Rattle.fidl_table_format.specs.Section.{header_of, row_place};
 ghost use Rattle.fidl_decode_model.specs.Invariants.{IsFine};
 ghost use Rattle.fidl_decode_model.specs.Fine.{fine_prop};
 
 use fidl_links::Links;
-use fidl_table_format::{Entry, Row, read_entry};
+use fidl_table_format::{Entry, Row, read_entry, row_from};
 use fidl_verify::Table;
-use fidl_wire::{HandleInfo, u32_at};
+use fidl_wire::HandleInfo;
 use std::snapshot::Snapshot;
-
-/// The row at a place of a table's bytes: that of any number whose row stands there.
-#[inline(always)]
-pub(crate) fn row_from(coding: &[u8], place: usize) -> Row
-    requires { place + 16 ≤ length coding.now }
-    ensures { (h : Header) (index : ℕ) → row_place h index ≡ place
-        → result ≡ row_at coding.now h index }
-{
-    Row {
-        key: u32_at(coding, place),
-        entry: u32_at(coding, place + 4),
-        name_place: u32_at(coding, place + 8),
-        name_length: u32_at(coding, place + 12),
-    }
-}
 
 /// What never changes: a verified table, and a message within the limits of bytes and of handles.
 /// The bytes stand in the state, with the links. Here clauses alone know them, as they came.

@@ -67,7 +67,16 @@ impl Entry {
         ensures number { as_number result ≡ underlying self.now }
         ensures kind { IsTrue (subtype_is is_number self.now) → IsTrue (is_number result) }
     {
-        EntryKind::from_subtype(self.subtype).unwrap_or(EntryKind::Uint8)
+        match self.subtype {
+            2 => EntryKind::Int8,
+            3 => EntryKind::Int16,
+            4 => EntryKind::Int32,
+            5 => EntryKind::Int64,
+            7 => EntryKind::Uint16,
+            8 => EntryKind::Uint32,
+            9 => EntryKind::Uint64,
+            _ => EntryKind::Uint8,
+        }
     }
 }
 

@@ -1,5 +1,6 @@
 //! Readers of the records of a table's sections.
-ghost use Rattle.std.specs.Prelude.{◌≡◌, ◌+◌, ◌*◌, ◌^◌, ◌≤◌, length, slice_range};
+ghost use Rattle.std.specs.Prelude.{◌≡◌, ℕ, ◌+◌, ◌*◌, ◌^◌, ◌≤◌, length, slice_range};
+ghost use Rattle.fidl_table_format.specs.declared.record.Header.{Header};
 ghost use Rattle.fidl_table_format.specs.Section.{header_of, entry_at, row_at, range_at, root_at};
 ghost use Rattle.fidl_table_format.specs.Section.{entry_place, row_place, value_place, root_place};
 ghost use Rattle.fidl_table_format.specs.Section.{protocol_place, protocol_at, method_place, method_at};
@@ -54,19 +55,36 @@ pub fn read_entry(table: &[u8], index: u32) -> Entry
     }
 }
 
-/// The fields of a row, by its number, in a table with this header.
+/// Where the rows begin, in bytes from the start of a table with this header.
 #[inline(always)]
-pub fn read_row(table: &[u8], header: &Header, index: u32) -> Row
-    requires { row_place header.now index + 16 ≤ length table.now }
-    ensures { result ≡ row_at table.now header.now index }
+pub fn rows_start(header: &Header) -> usize
+    ensures { result ≡ row_place header.now 0 }
 {
-    let place = HEADER_SIZE + 40 * header.entries as usize + 16 * index as usize;
+    HEADER_SIZE + 40 * header.entries as usize
+}
+
+/// The fields of the row at a place, in bytes from the start of a table: those of each number whose
+/// row stands there.
+#[inline(always)]
+pub fn row_from(table: &[u8], place: usize) -> Row
+    requires { place + 16 ≤ length table.now }
+    ensures { (h : Header) (index : ℕ) → row_place h index ≡ place
+        → result ≡ row_at table.now h index }
+{
     Row {
         key: u32_at(table, place),
         entry: u32_at(table, place + 4),
         name_place: u32_at(table, place + 8),
         name_length: u32_at(table, place + 12),
     }
+}
+
+/// The fields of a row, by its number, in a table with this header.
+pub fn read_row(table: &[u8], header: &Header, index: u32) -> Row
+    requires { row_place header.now index + 16 ≤ length table.now }
+    ensures { result ≡ row_at table.now header.now index }
+{
+    row_from(table, rows_start(header) + 16 * index as usize)
 }
 
 /// How many bytes so many records of values have, in a table with this header.
@@ -86,8 +104,7 @@ fn value_start(header: &Header, index: u32) -> usize
     ensures value { result ≡ value_place header.now index }
     ensures small { result ≤ 2 ^ 40 }
 {
-    let rows = HEADER_SIZE + 40 * header.entries as usize;
-    let values = rows + 16 * header.rows as usize;
+    let values = rows_start(header) + 16 * header.rows as usize;
     values + values_size(header, index)
 }
 

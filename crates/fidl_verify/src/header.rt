@@ -6,7 +6,7 @@ ghost use Rattle.fidl_verify.specs.Faults.{Breaks};
 
 use crate::fault::TableFault;
 use crate::sections::Sections;
-use fidl_table_format::{HEADER_SIZE, Header, read_header, values_size};
+use fidl_table_format::{HEADER_SIZE, Header, read_header, rows_start, values_size};
 use fidl_wire::MAX_ENTRIES;
 
 /// "FCT2", as a number.
@@ -59,5 +59,10 @@ pub(crate) fn read_sections(bytes: &[u8]) -> Result<Sections<'_>, TableFault>
     if header.entries > MAX_ENTRIES {
         return Err(TableFault::BadIndex { at: 0 });
     }
-    Ok(Sections { bytes, header })
+    let rows = rows_start(&header);
+    Ok(Sections {
+        bytes,
+        header,
+        rows,
+    })
 }

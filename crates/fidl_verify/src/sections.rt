@@ -1,19 +1,21 @@
 //! The sections of a table whose header is right.
 ghost use Rattle.std.specs.Prelude.{◌≡◌, ◌+◌, ◌≤◌, ◌<◌, length};
 ghost use Rattle.fidl_table_format.specs.Section.{header_of, table_length, entry_at, row_at, range_at};
-ghost use Rattle.fidl_table_format.specs.Section.{root_at, protocol_at, method_at, name_at};
+ghost use Rattle.fidl_table_format.specs.Section.{row_place, root_at, protocol_at, method_at, name_at};
 
 use fidl_table_format::{
     Entry, Header, MethodRecord, ProtocolRecord, Root, Row, ValueRange, name_bytes, read_entry,
-    read_method, read_protocol, read_range, read_root, read_row,
+    read_method, read_protocol, read_range, read_root, row_from,
 };
 
-/// The bytes of a table, and its header; the sections fill the table.
+/// The bytes of a table, its header, and where its rows begin; the sections fill the table.
 #[derive(Clone, Copy)]
 pub(crate) struct Sections<'t> {
     pub(crate) bytes: &'t [u8],
     pub(crate) header: Header,
+    pub(crate) rows: usize,
     ghost is_header: { header ≡ header_of bytes.now },
+    ghost placed: { rows ≡ row_place header 0 },
     ghost whole: { length bytes.now ≡ table_length header },
 }
 
@@ -33,7 +35,7 @@ impl<'t> Sections<'t> {
         requires { index < self.now.header.rows }
         ensures { result ≡ row_at self.now.bytes.now self.now.header index }
     {
-        read_row(self.bytes, &self.header, index)
+        row_from(self.bytes, self.rows + 16 * index as usize)
     }
 
     /// The end of rows that follow one another.

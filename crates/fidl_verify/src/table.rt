@@ -2,6 +2,7 @@
 ghost use Rattle.std.specs.Prelude.{◌≡◌, ℕ, ◌+◌, ◌<◌, ◌≤◌, OnOk, OnErr, IfOk, IfErr, IfSome};
 ghost use Rattle.std.specs.Prelude.{IfNone};
 ghost use Rattle.fidl_table_format.specs.Section.{header_of, entry_at, row_at, range_at, name_at};
+ghost use Rattle.fidl_table_format.specs.Section.{row_place};
 ghost use Rattle.fidl_table_format.specs.Entry.{rows_before, values_before};
 ghost use Rattle.fidl_table_format.specs.Root.{IsRootEntry, HasNoRoot};
 ghost use Rattle.fidl_table_format.specs.WellFormed.{WellFormed};
@@ -107,6 +108,15 @@ impl<'t> Table<'t> {
         ensures well_formed { WellFormed self.now }
     {
         self.sections.header.rows
+    }
+
+    /// Where the rows begin, in bytes from the start of the table.
+    #[inline(always)]
+    pub fn rows_start(&self) -> usize
+        ensures value { result ≡ row_place (header_of self.now) 0 }
+        ensures well_formed { WellFormed self.now }
+    {
+        self.sections.rows
     }
 
     /// The number of records of values.

@@ -17,14 +17,14 @@ use Rattle.fidl_decode_model.proofs.Excluding.{told_excluded}
 use Rattle.fidl_decode.proofs.message.attempt.Goals as goal
 
 pub invariant_of-decoder-clause-fine : goal.invariant_of-decoder-clause-fine
-invariant_of-decoder-clause-fine c = fine_of c.args.table.now c.entries-entries.ensures.well_formed
+invariant_of-decoder-clause-fine c = fine_of c.args.table.now c.rows_start-rows.ensures.well_formed
 
 -- a message encodes one value, so the steps are no fewer than the work of each that it encodes
 pub invariant_of-result : goal.invariant_of-result
 invariant_of-result c =
     let t = c.args.table.now in
     let ds = declarations_of t in
-    let well = c.entries-entries.ensures.well_formed in
+    let well = c.rows_start-rows.ensures.well_formed in
     let x = c.in-Ok.ensures.least in
     let kept : c.check-checked.new.state.links.came ≡ c.of.result.value.came = c.check-checked.ensures.holds in (
       c.requires,
@@ -45,7 +45,7 @@ returns-clause-fault_is_true c =
 pub returns-clause-err : goal.returns-clause-err
 returns-clause-err c =
     let t = c.args.table.now in
-    let well = c.entries-entries.ensures.well_formed in
+    let well = c.rows_start-rows.ensures.well_formed in
     let came : c.of.result.value.came ≡ c.args.bytes.now = ap (λ (w : Written). w.came) c.of.ensures ∙ c.new-links.ensures.came in
     let told = subst (λ (b : List ℕ). IsTold (declarations_of t) (ty.named c.args.entry) b c.args.handles.now c.in-Err.fault) came c.in-Err.ensures.fault_is_true in
     λ y. told_excluded t (fine_of t well) (sound t well) c.args.entry c.requires c.args.bytes.now c.args.handles.now y c.in-Err.fault told
@@ -56,7 +56,7 @@ returns-in-Some-clause-fault_is_true c = c.in-Some.ensures.told (declarations_of
 pub returns-in-Some-clause-err : goal.returns-in-Some-clause-err
 returns-in-Some-clause-err c =
     let t = c.args.table.now in
-    let well = c.entries-entries.ensures.well_formed in
+    let well = c.rows_start-rows.ensures.well_formed in
     λ y. told_excluded t (fine_of t well) (sound t well) c.args.entry c.requires c.args.bytes.now c.args.handles.now y c.in-Some.fault (c.in-Some.ensures.told (declarations_of t) (ty.named c.args.entry))
 
 pub invariant_of-decoder-clause-octets : goal.invariant_of-decoder-clause-octets

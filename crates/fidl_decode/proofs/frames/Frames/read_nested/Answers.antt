@@ -14,6 +14,7 @@ use Rattle.fidl_decode_model.specs.Invariants.{is_leaf}
 use Rattle.fidl_decode_model.proofs.Turning.{passed_on, done_fits}
 use Rattle.fidl_decode_columns.proofs.Leaves.{going_on, same_frame, left_over, turns_then, turns_break, turns_stay}
 use Rattle.fidl_decode_values.proofs.ReadyRows.{rest_ready}
+use Rattle.fidl_decode.proofs.Onward.{entered, all_read_of}
 use Rattle.fidl_decode.proofs.frames.Frames.read_nested.Goals as goal
 
 no_some : {A : Type 0} (a : A) → Some a ≡ None → ⊥
@@ -31,8 +32,8 @@ read_row-requires-clause-frame c =
     let so_far = subst (λ (x : Frame). Turns t m f old now a (left_over (Some x))) (sym same) c.loop-many.invariant.turns in
     so_far.rest_fine.0
 
-pub returns-in_err-read_row-clause-fault_is_true : goal.returns-in_err-read_row-clause-fault_is_true
-returns-in_err-read_row-clause-fault_is_true c =
+pub returns-in_err-read_row : goal.returns-in_err-read_row
+returns-in_err-read_row c =
     let t = c.args.self.now.decoder.table.now in
     let m = message c.args.self.now.decoder in
     let f = c.args.frame in
@@ -42,7 +43,15 @@ returns-in_err-read_row-clause-fault_is_true c =
     let rest = c.rows_from-rest.result in
     let same = c.rows_from-rest.ensures in
     let so_far = subst (λ (x : Frame). Turns t m f old now a (left_over (Some x))) (sym same) c.loop-many.invariant.turns in
-    passed_on c.from_residual.result c.in_err-read_row.field-0.0 _ c.from_residual.ensures.1 (turns_break t m f old now a rest so_far _ c.in_err-read_row.ensures.fault_is_true)
+    record {
+      holds = c.read_row.ensures.holds;
+      ok = no_ok c.from_residual.result c.in_err-read_row.field-0.0 _ c.from_residual.ensures.1;
+      grows = no_ok c.from_residual.result c.in_err-read_row.field-0.0 _ c.from_residual.ensures.1;
+      ended = no_ok c.from_residual.result c.in_err-read_row.field-0.0 _ c.from_residual.ensures.1;
+      cost = cost_on _ _ _ c.args.state.now.steps c.loop-many.state.steps c.read_row.new.state.steps c.loop-many.invariant.steps c.loop-many.invariant.turns.less (subst (λ (x : Frame). c.read_row.new.state.steps ≤ c.loop-many.state.steps + turn_work
+          c.args.self.now.decoder.bytes.value.came c.loop-many.state.next x) c.rows_from-rest.ensures c.in_err-read_row.ensures.spends.most);
+      fault_is_true = passed_on c.from_residual.result c.in_err-read_row.field-0.0 _ c.from_residual.ensures.1 (turns_break t m f old now a rest so_far _ c.in_err-read_row.ensures.fault_is_true);
+    }
 
 pub loop-many-preserved-in-Some : goal.loop-many-preserved-in-Some
 loop-many-preserved-in-Some c =
@@ -101,8 +110,8 @@ enter_box-requires-clause-whole c =
     let box = c.ends_in_box.ensures c.if-not-ends_in_box.false in
     box.2 ∙ ap (λ (x : Frame). x.size) (sym same)
 
-pub returns-in_err-below-clause-fault_is_true : goal.returns-in_err-below-clause-fault_is_true
-returns-in_err-below-clause-fault_is_true c =
+pub returns-in_err-below : goal.returns-in_err-below
+returns-in_err-below c =
     let t = c.args.self.now.decoder.table.now in
     let m = message c.args.self.now.decoder in
     let f = c.args.frame in
@@ -112,10 +121,18 @@ returns-in_err-below-clause-fault_is_true c =
     let rest = c.rows_from-rest.result in
     let same = c.rows_from-rest.ensures in
     let so_far = subst (λ (x : Frame). Turns t m f old now a (left_over (Some x))) (sym same) c.loop-many.invariant.turns in
-    passed_on c.from_residual-in_err-below.result c.in_err-below.field-0.0 _ c.from_residual-in_err-below.ensures.1 (turns_break t m f old now a rest so_far _ c.in_err-below.ensures.fault_is_true)
+    record {
+      holds = c.enter_box.ensures.holds;
+      ok = no_ok c.from_residual-in_err-below.result c.in_err-below.field-0.0 _ c.from_residual-in_err-below.ensures.1;
+      grows = no_ok c.from_residual-in_err-below.result c.in_err-below.field-0.0 _ c.from_residual-in_err-below.ensures.1;
+      ended = no_ok c.from_residual-in_err-below.result c.in_err-below.field-0.0 _ c.from_residual-in_err-below.ensures.1;
+      cost = cost_on _ _ _ c.args.state.now.steps c.loop-many.state.steps c.enter_box.new.state.steps c.loop-many.invariant.steps c.loop-many.invariant.turns.less (subst (λ (x : Frame). c.enter_box.new.state.steps ≤ c.loop-many.state.steps + turn_work
+          c.args.self.now.decoder.bytes.value.came c.loop-many.state.next x) c.rows_from-rest.ensures c.in_err-below.ensures.spends.most);
+      fault_is_true = passed_on c.from_residual-in_err-below.result c.in_err-below.field-0.0 _ c.from_residual-in_err-below.ensures.1 (turns_break t m f old now a rest so_far _ c.in_err-below.ensures.fault_is_true);
+    }
 
-pub returns-in_default-2-clause-ok : goal.returns-in_default-2-clause-ok
-returns-in_default-2-clause-ok c =
+pub returns-in_default-2 : goal.returns-in_default-2
+returns-in_default-2 c =
     let t = c.args.self.now.decoder.table.now in
     let m = message c.args.self.now.decoder in
     let f = c.args.frame in
@@ -131,7 +148,15 @@ returns-in_default-2-clause-ok c =
     let all = c.enter_box.new.state.steps - c.args.state.now.steps in
     let rises = (one_more _ _ _ c.in_ok-below.ensures.spends) in
     let two = subst (λ (o : Option Frame). Turns t m rest now new spent (left_over o)) c.in_default-2.is c.in_ok-below.ensures.ok in
-    turns_then t m f old now a rest so_far new spent all (left_over None) (omega (arith, begun, rises)) two
+    record {
+      holds = c.enter_box.ensures.holds;
+      ok = turns_then t m f old now a rest so_far new spent all (left_over None) (omega (arith, begun, rises)) two;
+      grows = grows_on _ _ _ c.loop-many.invariant.steps (one_more _ _ _ c.in_ok-below.ensures.spends);
+      ended = rises_on _ _ _ c.loop-many.invariant.steps (one_more _ _ _ c.in_ok-below.ensures.spends);
+      cost = cost_on _ _ _ c.args.state.now.steps c.loop-many.state.steps c.enter_box.new.state.steps c.loop-many.invariant.steps c.loop-many.invariant.turns.less (subst (λ (x : Frame). c.enter_box.new.state.steps ≤ c.loop-many.state.steps + turn_work
+          c.args.self.now.decoder.bytes.value.came c.loop-many.state.next x) c.rows_from-rest.ensures c.in_ok-below.ensures.spends.most);
+      fault_is_true = tt;
+    }
 
 pub pass_known-content-requires-clause-frame : goal.pass_known-content-requires-clause-frame
 pass_known-content-requires-clause-frame c =
@@ -139,18 +164,11 @@ pass_known-content-requires-clause-frame c =
     let m = message c.args.self.now.decoder in
     let f = c.args.frame in
     let old = at_of c.args.state.now in
-    let now = at_of c.loop-many.state in
-    let a = c.loop-many.state.steps - c.args.state.now.steps in
     let begun = c.loop-many.invariant.steps in
-    let rest = c.rows_from-rest.result in
-    let same = c.rows_from-rest.ensures in
-    let so_far = subst (λ (x : Frame). Turns t m f old now a (left_over (Some x))) (sym same) c.loop-many.invariant.turns in
     let new = at_of c.enter_box.new.state in
-    let spent = c.enter_box.new.state.steps - c.loop-many.state.steps in
-    let all = c.enter_box.new.state.steps - c.args.state.now.steps in
-    let rises = (one_more _ _ _ c.in_ok-below.ensures.spends) in
-    let two = subst (λ (o : Option Frame). Turns t m rest now new spent (left_over o)) c.in-Some-2.is c.in_ok-below.ensures.ok in
-    let run = turns_then t m f old now a rest so_far new spent all (left_over (Some c.in-Some-2.below)) (omega (arith, begun, rises)) two in
+    let rises = one_more _ _ _ c.in_ok-below.ensures.spends in
+    let run = entered t m f _ c.rows_from-rest.result c.in-Some-2.below old (at_of c.loop-many.state) new c.args.state.now.steps c.loop-many.state.steps c.enter_box.new.state.steps
+    c.loop-many.invariant.turns c.rows_from-rest.ensures begun (omega (arith, rises)) _ c.in-Some-2.is c.in_ok-below.ensures.ok in
     run.rest_fine.0
 
 pub pass_known-content-requires-clause-state : goal.pass_known-content-requires-clause-state
@@ -159,18 +177,11 @@ pass_known-content-requires-clause-state c =
     let m = message c.args.self.now.decoder in
     let f = c.args.frame in
     let old = at_of c.args.state.now in
-    let now = at_of c.loop-many.state in
-    let a = c.loop-many.state.steps - c.args.state.now.steps in
     let begun = c.loop-many.invariant.steps in
-    let rest = c.rows_from-rest.result in
-    let same = c.rows_from-rest.ensures in
-    let so_far = subst (λ (x : Frame). Turns t m f old now a (left_over (Some x))) (sym same) c.loop-many.invariant.turns in
     let new = at_of c.enter_box.new.state in
-    let spent = c.enter_box.new.state.steps - c.loop-many.state.steps in
-    let all = c.enter_box.new.state.steps - c.args.state.now.steps in
-    let rises = (one_more _ _ _ c.in_ok-below.ensures.spends) in
-    let two = subst (λ (o : Option Frame). Turns t m rest now new spent (left_over o)) c.in-Some-2.is c.in_ok-below.ensures.ok in
-    let run = turns_then t m f old now a rest so_far new spent all (left_over (Some c.in-Some-2.below)) (omega (arith, begun, rises)) two in
+    let rises = one_more _ _ _ c.in_ok-below.ensures.spends in
+    let run = entered t m f _ c.rows_from-rest.result c.in-Some-2.below old (at_of c.loop-many.state) new c.args.state.now.steps c.loop-many.state.steps c.enter_box.new.state.steps
+    c.loop-many.invariant.turns c.rows_from-rest.ensures begun (omega (arith, rises)) _ c.in-Some-2.is c.in_ok-below.ensures.ok in
     run.state
 
 pub pass_known-content-requires-clause-budget : goal.pass_known-content-requires-clause-budget
@@ -179,18 +190,11 @@ pass_known-content-requires-clause-budget c =
     let m = message c.args.self.now.decoder in
     let f = c.args.frame in
     let old = at_of c.args.state.now in
-    let now = at_of c.loop-many.state in
-    let a = c.loop-many.state.steps - c.args.state.now.steps in
     let begun = c.loop-many.invariant.steps in
-    let rest = c.rows_from-rest.result in
-    let same = c.rows_from-rest.ensures in
-    let so_far = subst (λ (x : Frame). Turns t m f old now a (left_over (Some x))) (sym same) c.loop-many.invariant.turns in
     let new = at_of c.enter_box.new.state in
-    let spent = c.enter_box.new.state.steps - c.loop-many.state.steps in
-    let all = c.enter_box.new.state.steps - c.args.state.now.steps in
-    let rises = (one_more _ _ _ c.in_ok-below.ensures.spends) in
-    let two = subst (λ (o : Option Frame). Turns t m rest now new spent (left_over o)) c.in-Some-2.is c.in_ok-below.ensures.ok in
-    let run = turns_then t m f old now a rest so_far new spent all (left_over (Some c.in-Some-2.below)) (omega (arith, begun, rises)) two in
+    let rises = one_more _ _ _ c.in_ok-below.ensures.spends in
+    let run = entered t m f _ c.rows_from-rest.result c.in-Some-2.below old (at_of c.loop-many.state) new c.args.state.now.steps c.loop-many.state.steps c.enter_box.new.state.steps
+    c.loop-many.invariant.turns c.rows_from-rest.ensures begun (omega (arith, rises)) _ c.in-Some-2.is c.in_ok-below.ensures.ok in
     let less_run = run.less in
     omega (arith, less_run, begun, rises, c.requires.budget)
 
@@ -200,23 +204,16 @@ returns-in_default-left c =
     let m = message c.args.self.now.decoder in
     let f = c.args.frame in
     let old = at_of c.args.state.now in
-    let now = at_of c.loop-many.state in
-    let a = c.loop-many.state.steps - c.args.state.now.steps in
     let begun = c.loop-many.invariant.steps in
-    let rest = c.rows_from-rest.result in
-    let same = c.rows_from-rest.ensures in
-    let so_far = subst (λ (x : Frame). Turns t m f old now a (left_over (Some x))) (sym same) c.loop-many.invariant.turns in
     let new = at_of c.enter_box.new.state in
-    let spent = c.enter_box.new.state.steps - c.loop-many.state.steps in
-    let all = c.enter_box.new.state.steps - c.args.state.now.steps in
-    let rises = (one_more _ _ _ c.in_ok-below.ensures.spends) in
-    let two = subst (λ (o : Option Frame). Turns t m rest now new spent (left_over o)) c.in-Some-2.is c.in_ok-below.ensures.ok in
-    let run = turns_then t m f old now a rest so_far new spent all (left_over (Some c.in-Some-2.below)) (omega (arith, begun, rises)) two in
+    let rises = one_more _ _ _ c.in_ok-below.ensures.spends in
+    let run = entered t m f _ c.rows_from-rest.result c.in-Some-2.below old (at_of c.loop-many.state) new c.args.state.now.steps c.loop-many.state.steps c.enter_box.new.state.steps
+    c.loop-many.invariant.turns c.rows_from-rest.ensures begun (omega (arith, rises)) _ c.in-Some-2.is c.in_ok-below.ensures.ok in
     let content = c.pass_known-content.result in
     let passed = c.pass_known-content.ensures.grows in
     let on = at_of c.pass_known-content.new.state in
     let whole = c.pass_known-content.new.state.steps - c.args.state.now.steps in
-    let all_read = turns_then t m f old new all c.in-Some-2.below run on (c.pass_known-content.new.state.steps - c.enter_box.new.state.steps) whole (left_over (Some content)) (omega (arith, begun, rises, passed)) c.pass_known-content.ensures.turns in
+    let all_read = turns_then t m f old new (c.enter_box.new.state.steps - c.args.state.now.steps) c.in-Some-2.below run on (c.pass_known-content.new.state.steps - c.enter_box.new.state.steps) whole (left_over (Some content)) (omega (arith, begun, rises, passed)) c.pass_known-content.ensures.turns in
     let less_read = all_read.less in
     record { holds = c.pass_known-content.ensures.holds; ok = all_read; grows = omega (arith, begun, rises, passed); ended = tt; cost = omega (arith, begun, rises, passed, less_read); fault_is_true = tt }
 
@@ -243,23 +240,16 @@ loop-many-preserved c =
     let m = message c.args.self.now.decoder in
     let f = c.args.frame in
     let old = at_of c.args.state.now in
-    let now = at_of c.loop-many.state in
-    let a = c.loop-many.state.steps - c.args.state.now.steps in
     let begun = c.loop-many.invariant.steps in
-    let rest = c.rows_from-rest.result in
-    let same = c.rows_from-rest.ensures in
-    let so_far = subst (λ (x : Frame). Turns t m f old now a (left_over (Some x))) (sym same) c.loop-many.invariant.turns in
     let new = at_of c.enter_box.new.state in
-    let spent = c.enter_box.new.state.steps - c.loop-many.state.steps in
-    let all = c.enter_box.new.state.steps - c.args.state.now.steps in
-    let rises = (one_more _ _ _ c.in_ok-below.ensures.spends) in
-    let two = subst (λ (o : Option Frame). Turns t m rest now new spent (left_over o)) c.in-Some-2.is c.in_ok-below.ensures.ok in
-    let run = turns_then t m f old now a rest so_far new spent all (left_over (Some c.in-Some-2.below)) (omega (arith, begun, rises)) two in
+    let rises = one_more _ _ _ c.in_ok-below.ensures.spends in
+    let run = entered t m f _ c.rows_from-rest.result c.in-Some-2.below old (at_of c.loop-many.state) new c.args.state.now.steps c.loop-many.state.steps c.enter_box.new.state.steps
+    c.loop-many.invariant.turns c.rows_from-rest.ensures begun (omega (arith, rises)) _ c.in-Some-2.is c.in_ok-below.ensures.ok in
     let content = c.pass_known-content.result in
     let passed = c.pass_known-content.ensures.grows in
     let on = at_of c.pass_known-content.new.state in
     let whole = c.pass_known-content.new.state.steps - c.args.state.now.steps in
-    let all_read = turns_then t m f old new all c.in-Some-2.below run on (c.pass_known-content.new.state.steps - c.enter_box.new.state.steps) whole (left_over (Some content)) (omega (arith, begun, rises, passed)) c.pass_known-content.ensures.turns in
+    let all_read = turns_then t m f old new (c.enter_box.new.state.steps - c.args.state.now.steps) c.in-Some-2.below run on (c.pass_known-content.new.state.steps - c.enter_box.new.state.steps) whole (left_over (Some content)) (omega (arith, begun, rises, passed)) c.pass_known-content.ensures.turns in
     let rows = Rows c.in-Rows-left.front c.in-Rows-left.behind in
     record { holds = c.pass_known-content.ensures.holds; turns = subst (λ (x : Frame). Turns t m f old on whole (left_over (Some x))) (same_frame content rows c.in-Rows-left.is) all_read; steps = omega (arith, begun, rises, passed) }
 
@@ -271,14 +261,11 @@ end_rows-requires-clause-frame c =
     let old = at_of c.args.state.now in
     let now = at_of c.loop-many.state in
     let a = c.loop-many.state.steps - c.args.state.now.steps in
-    let same = c.rows_from.ensures in
-    let none : c.loop-many.many ≡ 0 = omega (arith, c.loop-many-test.false) in
-    let over = subst (λ n. Turns t m f old now a (left_over (Some (going_on c.loop-many.holder (Rows c.loop-many.next n) c.loop-many.done)))) none c.loop-many.invariant.turns in
-    let so_far = subst (λ (x : Frame). Turns t m f old now a (left_over (Some x))) (sym same) over in
+    let so_far = all_read_of t m f old now a c.loop-many.holder c.rows_from.result c.loop-many.next c.loop-many.many c.loop-many.done (omega (arith, c.loop-many-test.false)) c.rows_from.ensures c.loop-many.invariant.turns in
     so_far.rest_fine.0
 
-pub returns-in_err-end_rows-clause-fault_is_true : goal.returns-in_err-end_rows-clause-fault_is_true
-returns-in_err-end_rows-clause-fault_is_true c =
+pub returns-in_err-end_rows : goal.returns-in_err-end_rows
+returns-in_err-end_rows c =
     let t = c.args.self.now.decoder.table.now in
     let m = message c.args.self.now.decoder in
     let f = c.args.frame in
@@ -286,14 +273,19 @@ returns-in_err-end_rows-clause-fault_is_true c =
     let now = at_of c.loop-many.state in
     let a = c.loop-many.state.steps - c.args.state.now.steps in
     let rest = c.rows_from.result in
-    let same = c.rows_from.ensures in
-    let none : c.loop-many.many ≡ 0 = omega (arith, c.loop-many-test.false) in
-    let over = subst (λ n. Turns t m f old now a (left_over (Some (going_on c.loop-many.holder (Rows c.loop-many.next n) c.loop-many.done)))) none c.loop-many.invariant.turns in
-    let so_far = subst (λ (x : Frame). Turns t m f old now a (left_over (Some x))) (sym same) over in
-    passed_on c.from_residual-in_err-end_rows.result c.in_err-end_rows.field-0.0 _ c.from_residual-in_err-end_rows.ensures.1 (turns_break t m f old now a rest so_far _ c.in_err-end_rows.ensures.fault_is_true)
+    let so_far = all_read_of t m f old now a c.loop-many.holder c.rows_from.result c.loop-many.next c.loop-many.many c.loop-many.done (omega (arith, c.loop-many-test.false)) c.rows_from.ensures c.loop-many.invariant.turns in
+    record {
+      holds = c.end_rows.ensures.holds;
+      ok = no_ok c.from_residual-in_err-end_rows.result c.in_err-end_rows.field-0.0 _ c.from_residual-in_err-end_rows.ensures.1;
+      grows = no_ok c.from_residual-in_err-end_rows.result c.in_err-end_rows.field-0.0 _ c.from_residual-in_err-end_rows.ensures.1;
+      ended = no_ok c.from_residual-in_err-end_rows.result c.in_err-end_rows.field-0.0 _ c.from_residual-in_err-end_rows.ensures.1;
+      cost = cost_on _ _ _ c.args.state.now.steps c.loop-many.state.steps c.end_rows.new.state.steps c.loop-many.invariant.steps c.loop-many.invariant.turns.less (subst (λ (x : Frame). c.end_rows.new.state.steps ≤ c.loop-many.state.steps + turn_work
+          c.args.self.now.decoder.bytes.value.came c.loop-many.state.next x) c.rows_from.ensures c.in_err-end_rows.ensures.spends.most);
+      fault_is_true = passed_on c.from_residual-in_err-end_rows.result c.in_err-end_rows.field-0.0 _ c.from_residual-in_err-end_rows.ensures.1 (turns_break t m f old now a rest so_far _ c.in_err-end_rows.ensures.fault_is_true);
+    }
 
-pub returns-clause-ok : goal.returns-clause-ok
-returns-clause-ok c =
+pub returns : goal.returns
+returns c =
     let t = c.args.self.now.decoder.table.now in
     let m = message c.args.self.now.decoder in
     let f = c.args.frame in
@@ -302,15 +294,21 @@ returns-clause-ok c =
     let a = c.loop-many.state.steps - c.args.state.now.steps in
     let begun = c.loop-many.invariant.steps in
     let rest = c.rows_from.result in
-    let same = c.rows_from.ensures in
-    let none : c.loop-many.many ≡ 0 = omega (arith, c.loop-many-test.false) in
-    let over = subst (λ n. Turns t m f old now a (left_over (Some (going_on c.loop-many.holder (Rows c.loop-many.next n) c.loop-many.done)))) none c.loop-many.invariant.turns in
-    let so_far = subst (λ (x : Frame). Turns t m f old now a (left_over (Some x))) (sym same) over in
+    let so_far = all_read_of t m f old now a c.loop-many.holder c.rows_from.result c.loop-many.next c.loop-many.many c.loop-many.done (omega (arith, c.loop-many-test.false)) c.rows_from.ensures c.loop-many.invariant.turns in
     let new = at_of c.end_rows.new.state in
     let spent = c.end_rows.new.state.steps - c.loop-many.state.steps in
     let all = c.end_rows.new.state.steps - c.args.state.now.steps in
     let rises = (one_more _ _ _ c.in_ok-end_rows.ensures.spends) in
-    turns_then t m f old now a rest so_far new spent all (left_over None) (omega (arith, begun, rises)) c.in_ok-end_rows.ensures.ok
+    record {
+      holds = c.end_rows.ensures.holds;
+      ok = turns_then t m f old now a rest so_far new spent all (left_over None) (omega (arith, begun, rises)) c.in_ok-end_rows.ensures.ok;
+      grows = grows_on _ _ _ c.loop-many.invariant.steps (one_more _ _ _ c.in_ok-end_rows.ensures.spends);
+      ended = rises_on _ _ _ c.loop-many.invariant.steps (one_more _ _ _ c.in_ok-end_rows.ensures.spends);
+      cost = cost_on _ _ _ c.args.state.now.steps c.loop-many.state.steps c.end_rows.new.state.steps c.loop-many.invariant.steps c.loop-many.invariant.turns.less (subst (λ
+          (x : Frame). c.end_rows.new.state.steps ≤ c.loop-many.state.steps + turn_work c.args.self.now.decoder.bytes.value.came
+          c.loop-many.state.next x) c.rows_from.ensures c.in_ok-end_rows.ensures.spends.most);
+      fault_is_true = tt;
+    }
 
 pub rows-rows-requires : goal.rows-rows-requires
 rows-rows-requires c = tt
@@ -361,21 +359,17 @@ read_row-requires-clause-budget c = subst (λ (x : Frame). c.loop-many.state.ste
 pub ends_in_box-requires : goal.ends_in_box-requires
 ends_in_box-requires c = record { within = c.loop-many.invariant.turns.rest_fine.0.left }
 
-pub returns-then-not-ends_in_box-clause-ok : goal.returns-then-not-ends_in_box-clause-ok
-returns-then-not-ends_in_box-clause-ok c = subst (λ (x : Frame). Turns c.args.self.now.decoder.table.now (message c.args.self.now.decoder) c.args.frame (at_of c.args.state.now) (at_of c.loop-many.state) (c.loop-many.state.steps - c.args.state.now.steps) (left_over
-    (Some x))) (sym c.rows_from-rest.ensures) c.loop-many.invariant.turns
-
-pub returns-then-not-ends_in_box-clause-grows : goal.returns-then-not-ends_in_box-clause-grows
-returns-then-not-ends_in_box-clause-grows c = c.loop-many.invariant.steps
-
-pub returns-then-not-ends_in_box-clause-ended : goal.returns-then-not-ends_in_box-clause-ended
-returns-then-not-ends_in_box-clause-ended c = tt
-
-pub returns-then-not-ends_in_box-clause-cost : goal.returns-then-not-ends_in_box-clause-cost
-returns-then-not-ends_in_box-clause-cost c = cost_now _ _ _ c.args.state.now.steps c.loop-many.state.steps c.loop-many.invariant.steps c.loop-many.invariant.turns.less
-
-pub returns-then-not-ends_in_box-clause-fault_is_true : goal.returns-then-not-ends_in_box-clause-fault_is_true
-returns-then-not-ends_in_box-clause-fault_is_true c = tt
+pub returns-then-not-ends_in_box : goal.returns-then-not-ends_in_box
+returns-then-not-ends_in_box c =
+    record {
+      holds = c.loop-many.invariant.holds;
+      ok = subst (λ (x : Frame). Turns c.args.self.now.decoder.table.now (message c.args.self.now.decoder) c.args.frame (at_of c.args.state.now) (at_of c.loop-many.state) (c.loop-many.state.steps - c.args.state.now.steps) (left_over
+          (Some x))) (sym c.rows_from-rest.ensures) c.loop-many.invariant.turns;
+      grows = c.loop-many.invariant.steps;
+      ended = tt;
+      cost = cost_now _ _ _ c.args.state.now.steps c.loop-many.state.steps c.loop-many.invariant.steps c.loop-many.invariant.turns.less;
+      fault_is_true = tt;
+    }
 
 pub enter_box-requires-clause-state : goal.enter_box-requires-clause-state
 enter_box-requires-clause-state c = c.loop-many.invariant.turns.state
@@ -400,72 +394,6 @@ end_rows-requires-clause-state c = c.loop-many.invariant.turns.state
 pub end_rows-requires-clause-budget : goal.end_rows-requires-clause-budget
 end_rows-requires-clause-budget c = subst (λ (x : Frame). c.loop-many.state.steps + turn_work c.args.self.now.decoder.bytes.value.came c.loop-many.state.next x < 2 ^ 40) (sym c.rows_from.ensures) (budget_on _ _ _ c.args.state.now.steps c.loop-many.state.steps (2 ^ 40) c.loop-many.invariant.steps
     c.loop-many.invariant.turns.less c.requires.budget)
-
-pub returns-in_default-2-clause-grows : goal.returns-in_default-2-clause-grows
-returns-in_default-2-clause-grows c = grows_on _ _ _ c.loop-many.invariant.steps (one_more _ _ _ c.in_ok-below.ensures.spends)
-
-pub returns-in_default-2-clause-ended : goal.returns-in_default-2-clause-ended
-returns-in_default-2-clause-ended c = rises_on _ _ _ c.loop-many.invariant.steps (one_more _ _ _ c.in_ok-below.ensures.spends)
-
-pub returns-in_default-2-clause-cost : goal.returns-in_default-2-clause-cost
-returns-in_default-2-clause-cost c = cost_on _ _ _ c.args.state.now.steps c.loop-many.state.steps c.enter_box.new.state.steps c.loop-many.invariant.steps c.loop-many.invariant.turns.less (subst (λ (x : Frame). c.enter_box.new.state.steps ≤ c.loop-many.state.steps + turn_work
-    c.args.self.now.decoder.bytes.value.came c.loop-many.state.next x) c.rows_from-rest.ensures c.in_ok-below.ensures.spends.most)
-
-pub returns-in_default-2-clause-fault_is_true : goal.returns-in_default-2-clause-fault_is_true
-returns-in_default-2-clause-fault_is_true c = tt
-
-pub returns-clause-grows : goal.returns-clause-grows
-returns-clause-grows c = grows_on _ _ _ c.loop-many.invariant.steps (one_more _ _ _ c.in_ok-end_rows.ensures.spends)
-
-pub returns-clause-ended : goal.returns-clause-ended
-returns-clause-ended c = rises_on _ _ _ c.loop-many.invariant.steps (one_more _ _ _ c.in_ok-end_rows.ensures.spends)
-
-pub returns-clause-cost : goal.returns-clause-cost
-returns-clause-cost c = cost_on _ _ _ c.args.state.now.steps c.loop-many.state.steps c.end_rows.new.state.steps c.loop-many.invariant.steps c.loop-many.invariant.turns.less (subst (λ
-    (x : Frame). c.end_rows.new.state.steps ≤ c.loop-many.state.steps + turn_work c.args.self.now.decoder.bytes.value.came
-    c.loop-many.state.next x) c.rows_from.ensures c.in_ok-end_rows.ensures.spends.most)
-
-pub returns-clause-fault_is_true : goal.returns-clause-fault_is_true
-returns-clause-fault_is_true c = tt
-
-pub returns-in_err-read_row-clause-ok : goal.returns-in_err-read_row-clause-ok
-returns-in_err-read_row-clause-ok c = no_ok c.from_residual.result c.in_err-read_row.field-0.0 _ c.from_residual.ensures.1
-
-pub returns-in_err-read_row-clause-grows : goal.returns-in_err-read_row-clause-grows
-returns-in_err-read_row-clause-grows c = no_ok c.from_residual.result c.in_err-read_row.field-0.0 _ c.from_residual.ensures.1
-
-pub returns-in_err-read_row-clause-ended : goal.returns-in_err-read_row-clause-ended
-returns-in_err-read_row-clause-ended c = no_ok c.from_residual.result c.in_err-read_row.field-0.0 _ c.from_residual.ensures.1
-
-pub returns-in_err-read_row-clause-cost : goal.returns-in_err-read_row-clause-cost
-returns-in_err-read_row-clause-cost c = cost_on _ _ _ c.args.state.now.steps c.loop-many.state.steps c.read_row.new.state.steps c.loop-many.invariant.steps c.loop-many.invariant.turns.less (subst (λ (x : Frame). c.read_row.new.state.steps ≤ c.loop-many.state.steps + turn_work
-    c.args.self.now.decoder.bytes.value.came c.loop-many.state.next x) c.rows_from-rest.ensures c.in_err-read_row.ensures.spends.most)
-
-pub returns-in_err-below-clause-ok : goal.returns-in_err-below-clause-ok
-returns-in_err-below-clause-ok c = no_ok c.from_residual-in_err-below.result c.in_err-below.field-0.0 _ c.from_residual-in_err-below.ensures.1
-
-pub returns-in_err-below-clause-grows : goal.returns-in_err-below-clause-grows
-returns-in_err-below-clause-grows c = no_ok c.from_residual-in_err-below.result c.in_err-below.field-0.0 _ c.from_residual-in_err-below.ensures.1
-
-pub returns-in_err-below-clause-ended : goal.returns-in_err-below-clause-ended
-returns-in_err-below-clause-ended c = no_ok c.from_residual-in_err-below.result c.in_err-below.field-0.0 _ c.from_residual-in_err-below.ensures.1
-
-pub returns-in_err-below-clause-cost : goal.returns-in_err-below-clause-cost
-returns-in_err-below-clause-cost c = cost_on _ _ _ c.args.state.now.steps c.loop-many.state.steps c.enter_box.new.state.steps c.loop-many.invariant.steps c.loop-many.invariant.turns.less (subst (λ (x : Frame). c.enter_box.new.state.steps ≤ c.loop-many.state.steps + turn_work
-    c.args.self.now.decoder.bytes.value.came c.loop-many.state.next x) c.rows_from-rest.ensures c.in_err-below.ensures.spends.most)
-
-pub returns-in_err-end_rows-clause-ok : goal.returns-in_err-end_rows-clause-ok
-returns-in_err-end_rows-clause-ok c = no_ok c.from_residual-in_err-end_rows.result c.in_err-end_rows.field-0.0 _ c.from_residual-in_err-end_rows.ensures.1
-
-pub returns-in_err-end_rows-clause-grows : goal.returns-in_err-end_rows-clause-grows
-returns-in_err-end_rows-clause-grows c = no_ok c.from_residual-in_err-end_rows.result c.in_err-end_rows.field-0.0 _ c.from_residual-in_err-end_rows.ensures.1
-
-pub returns-in_err-end_rows-clause-ended : goal.returns-in_err-end_rows-clause-ended
-returns-in_err-end_rows-clause-ended c = no_ok c.from_residual-in_err-end_rows.result c.in_err-end_rows.field-0.0 _ c.from_residual-in_err-end_rows.ensures.1
-
-pub returns-in_err-end_rows-clause-cost : goal.returns-in_err-end_rows-clause-cost
-returns-in_err-end_rows-clause-cost c = cost_on _ _ _ c.args.state.now.steps c.loop-many.state.steps c.end_rows.new.state.steps c.loop-many.invariant.steps c.loop-many.invariant.turns.less (subst (λ (x : Frame). c.end_rows.new.state.steps ≤ c.loop-many.state.steps + turn_work
-    c.args.self.now.decoder.bytes.value.came c.loop-many.state.next x) c.rows_from.ensures c.in_err-end_rows.ensures.spends.most)
 
 pub overflow_sub-many : goal.overflow_sub-many
 overflow_sub-many c = some_left c.loop-many.many c.loop-many-test.true
@@ -547,10 +475,7 @@ end_rows-requires-clause-ready c =
     let now = at_of c.loop-many.state in
     let a = c.loop-many.state.steps - c.args.state.now.steps in
     let rest = c.rows_from.result in
-    let same = c.rows_from.ensures in
-    let none : c.loop-many.many ≡ 0 = omega (arith, c.loop-many-test.false) in
-    let over = subst (λ n. Turns t m f old now a (left_over (Some (going_on c.loop-many.holder (Rows c.loop-many.next n) c.loop-many.done)))) none c.loop-many.invariant.turns in
-    let so_far = subst (λ (x : Frame). Turns t m f old now a (left_over (Some x))) (sym same) over in
+    let so_far = all_read_of t m f old now a c.loop-many.holder c.rows_from.result c.loop-many.next c.loop-many.many c.loop-many.done (omega (arith, c.loop-many-test.false)) c.rows_from.ensures c.loop-many.invariant.turns in
     rest_ready t m f old now a rest so_far c.requires.ready
 
 pub pass_known-content-requires-clause-ready : goal.pass_known-content-requires-clause-ready
@@ -559,16 +484,9 @@ pass_known-content-requires-clause-ready c =
     let m = message c.args.self.now.decoder in
     let f = c.args.frame in
     let old = at_of c.args.state.now in
-    let now = at_of c.loop-many.state in
-    let a = c.loop-many.state.steps - c.args.state.now.steps in
     let begun = c.loop-many.invariant.steps in
-    let rest = c.rows_from-rest.result in
-    let same = c.rows_from-rest.ensures in
-    let so_far = subst (λ (x : Frame). Turns t m f old now a (left_over (Some x))) (sym same) c.loop-many.invariant.turns in
     let new = at_of c.enter_box.new.state in
-    let spent = c.enter_box.new.state.steps - c.loop-many.state.steps in
-    let all = c.enter_box.new.state.steps - c.args.state.now.steps in
-    let rises = (one_more _ _ _ c.in_ok-below.ensures.spends) in
-    let two = subst (λ (o : Option Frame). Turns t m rest now new spent (left_over o)) c.in-Some-2.is c.in_ok-below.ensures.ok in
-    let run = turns_then t m f old now a rest so_far new spent all (left_over (Some c.in-Some-2.below)) (omega (arith, begun, rises)) two in
-    rest_ready t m f old new all c.in-Some-2.below run c.requires.ready
+    let rises = one_more _ _ _ c.in_ok-below.ensures.spends in
+    let run = entered t m f _ c.rows_from-rest.result c.in-Some-2.below old (at_of c.loop-many.state) new c.args.state.now.steps c.loop-many.state.steps c.enter_box.new.state.steps
+    c.loop-many.invariant.turns c.rows_from-rest.ensures begun (omega (arith, rises)) _ c.in-Some-2.is c.in_ok-below.ensures.ok in
+    rest_ready t m f old new (c.enter_box.new.state.steps - c.args.state.now.steps) c.in-Some-2.below run c.requires.ready

@@ -297,7 +297,8 @@ loop-i-preserved g c =
     (Some c.in-Some.inner) (omega (arith, so_far, on)) read in
     let more = c.in_ok-turn.ensures.grows in
     let nothing : c.in_ok-turn.turn ≡ left_over None = c.is_done.ensures.0 c.if-is_done.true in
-    let two = subst (λ (x : Turn). Turns c.args.self.now.decoder.table.now (message c.args.self.now.decoder) c.in-Some.inner (at_of c.read_struct_element.new.state) (at_of c.read_rest.new.state) (c.read_rest.new.state.steps - c.read_struct_element.new.state.steps) x) nothing c.in_ok-turn.ensures.ok in
+    let two = subst (λ (x : Turn). Turns c.args.self.now.decoder.table.now (message c.args.self.now.decoder) c.in-Some.inner (at_of c.read_struct_element.new.state) (at_of c.read_rest.new.state)
+    (c.read_rest.new.state.steps - c.read_struct_element.new.state.steps) x) nothing c.in_ok-turn.ensures.ok in
     record {
       holds = c.read_rest.ensures.holds;
       turns = turns_over c.args.self.now.decoder.table.now (message c.args.self.now.decoder) c.args.frame (at_of c.args.state.now) (at_of c.read_struct_element.new.state)

@@ -8,6 +8,7 @@ use Rattle.fidl_decode_model.specs.Machine.{Turns, at_of}
 use Rattle.fidl_decode_model.proofs.Turning.{passed_on}
 use Rattle.fidl_decode_columns.proofs.Leaves.{left_over, turns_start, turns_then, turns_break, turns_below, turns_over, below_breaks}
 use Rattle.fidl_decode.proofs.Tail.{turns_tail, turns_done}
+use Rattle.fidl_decode.proofs.Onward.{leaves_on, turn_on}
 use Rattle.fidl_decode.proofs.Leaving.{leaves_then, turn_alone}
 use Rattle.fidl_decode.proofs.frames.Frames.take_turn.Goals as goal
 
@@ -71,36 +72,24 @@ pub take_member-requires-clause-frame : goal.take_member-requires-clause-frame
 take_member-requires-clause-frame c =
     let so_far = c.loop-now.invariant.steps in
     let grows = c.in_ok-now.ensures.grows in
-    let two = subst (λ (o : Option Frame). Turns c.args.self.now.decoder.table.now (message c.args.self.now.decoder) c.loop-now.rest (at_of c.loop-now.state) (at_of c.read_next_leaves.new.state) (c.read_next_leaves.new.state.steps - c.loop-now.state.steps) (left_over o)) c.in-Some.is c.in_ok-now.ensures.ok in
-    let held : Turns c.args.self.now.decoder.table.now (message c.args.self.now.decoder) c.args.frame (at_of c.args.state.now) (at_of c.read_next_leaves.new.state)
-    (c.read_next_leaves.new.state.steps - c.args.state.now.steps) (left_over (Some c.in-Some.now)) = turns_then c.args.self.now.decoder.table.now
-    (message c.args.self.now.decoder) c.args.frame (at_of c.args.state.now) (at_of c.loop-now.state) (c.loop-now.state.steps - c.args.state.now.steps)
-    c.loop-now.rest c.loop-now.invariant.turns (at_of c.read_next_leaves.new.state) _ _ (left_over (Some c.in-Some.now)) (omega (arith, so_far, grows))
-    two in
+    let held = leaves_on c.args.self.now.decoder.table.now (message c.args.self.now.decoder) c.args.frame c.loop-now.rest c.in-Some.now (at_of c.args.state.now) (at_of c.loop-now.state) (at_of c.read_next_leaves.new.state)
+    c.args.state.now.steps c.loop-now.state.steps c.read_next_leaves.new.state.steps c.loop-now.invariant.turns so_far grows _ c.in-Some.is c.in_ok-now.ensures.ok in
     held.rest_fine.0
 
 pub take_member-requires-clause-state : goal.take_member-requires-clause-state
 take_member-requires-clause-state c =
     let so_far = c.loop-now.invariant.steps in
     let grows = c.in_ok-now.ensures.grows in
-    let two = subst (λ (o : Option Frame). Turns c.args.self.now.decoder.table.now (message c.args.self.now.decoder) c.loop-now.rest (at_of c.loop-now.state) (at_of c.read_next_leaves.new.state) (c.read_next_leaves.new.state.steps - c.loop-now.state.steps) (left_over o)) c.in-Some.is c.in_ok-now.ensures.ok in
-    let held : Turns c.args.self.now.decoder.table.now (message c.args.self.now.decoder) c.args.frame (at_of c.args.state.now) (at_of c.read_next_leaves.new.state)
-    (c.read_next_leaves.new.state.steps - c.args.state.now.steps) (left_over (Some c.in-Some.now)) = turns_then c.args.self.now.decoder.table.now
-    (message c.args.self.now.decoder) c.args.frame (at_of c.args.state.now) (at_of c.loop-now.state) (c.loop-now.state.steps - c.args.state.now.steps)
-    c.loop-now.rest c.loop-now.invariant.turns (at_of c.read_next_leaves.new.state) _ _ (left_over (Some c.in-Some.now)) (omega (arith, so_far, grows))
-    two in
+    let held = leaves_on c.args.self.now.decoder.table.now (message c.args.self.now.decoder) c.args.frame c.loop-now.rest c.in-Some.now (at_of c.args.state.now) (at_of c.loop-now.state) (at_of c.read_next_leaves.new.state)
+    c.args.state.now.steps c.loop-now.state.steps c.read_next_leaves.new.state.steps c.loop-now.invariant.turns so_far grows _ c.in-Some.is c.in_ok-now.ensures.ok in
     held.state
 
 pub take_member-requires-clause-budget : goal.take_member-requires-clause-budget
 take_member-requires-clause-budget c =
     let so_far = c.loop-now.invariant.steps in
     let grows = c.in_ok-now.ensures.grows in
-    let two = subst (λ (o : Option Frame). Turns c.args.self.now.decoder.table.now (message c.args.self.now.decoder) c.loop-now.rest (at_of c.loop-now.state) (at_of c.read_next_leaves.new.state) (c.read_next_leaves.new.state.steps - c.loop-now.state.steps) (left_over o)) c.in-Some.is c.in_ok-now.ensures.ok in
-    let held : Turns c.args.self.now.decoder.table.now (message c.args.self.now.decoder) c.args.frame (at_of c.args.state.now) (at_of c.read_next_leaves.new.state)
-    (c.read_next_leaves.new.state.steps - c.args.state.now.steps) (left_over (Some c.in-Some.now)) = turns_then c.args.self.now.decoder.table.now
-    (message c.args.self.now.decoder) c.args.frame (at_of c.args.state.now) (at_of c.loop-now.state) (c.loop-now.state.steps - c.args.state.now.steps)
-    c.loop-now.rest c.loop-now.invariant.turns (at_of c.read_next_leaves.new.state) _ _ (left_over (Some c.in-Some.now)) (omega (arith, so_far, grows))
-    two in
+    let held = leaves_on c.args.self.now.decoder.table.now (message c.args.self.now.decoder) c.args.frame c.loop-now.rest c.in-Some.now (at_of c.args.state.now) (at_of c.loop-now.state) (at_of c.read_next_leaves.new.state)
+    c.args.state.now.steps c.loop-now.state.steps c.read_next_leaves.new.state.steps c.loop-now.invariant.turns so_far grows _ c.in-Some.is c.in_ok-now.ensures.ok in
     let less_now = held.less in
     omega (arith, less_now, so_far, grows, c.requires.budget)
 
@@ -108,12 +97,8 @@ pub returns-in_err-left-clause-cost : goal.returns-in_err-left-clause-cost
 returns-in_err-left-clause-cost c =
     let so_far = c.loop-now.invariant.steps in
     let grows = c.in_ok-now.ensures.grows in
-    let two = subst (λ (o : Option Frame). Turns c.args.self.now.decoder.table.now (message c.args.self.now.decoder) c.loop-now.rest (at_of c.loop-now.state) (at_of c.read_next_leaves.new.state) (c.read_next_leaves.new.state.steps - c.loop-now.state.steps) (left_over o)) c.in-Some.is c.in_ok-now.ensures.ok in
-    let held : Turns c.args.self.now.decoder.table.now (message c.args.self.now.decoder) c.args.frame (at_of c.args.state.now) (at_of c.read_next_leaves.new.state)
-    (c.read_next_leaves.new.state.steps - c.args.state.now.steps) (left_over (Some c.in-Some.now)) = turns_then c.args.self.now.decoder.table.now
-    (message c.args.self.now.decoder) c.args.frame (at_of c.args.state.now) (at_of c.loop-now.state) (c.loop-now.state.steps - c.args.state.now.steps)
-    c.loop-now.rest c.loop-now.invariant.turns (at_of c.read_next_leaves.new.state) _ _ (left_over (Some c.in-Some.now)) (omega (arith, so_far, grows))
-    two in
+    let held = leaves_on c.args.self.now.decoder.table.now (message c.args.self.now.decoder) c.args.frame c.loop-now.rest c.in-Some.now (at_of c.args.state.now) (at_of c.loop-now.state) (at_of c.read_next_leaves.new.state)
+    c.args.state.now.steps c.loop-now.state.steps c.read_next_leaves.new.state.steps c.loop-now.invariant.turns so_far grows _ c.in-Some.is c.in_ok-now.ensures.ok in
     let less_now = held.less in
     omega (arith, less_now, so_far, grows, c.in_err-left.ensures.cost)
 
@@ -121,19 +106,13 @@ pub returns-in_default-rest-clause-ok : goal.returns-in_default-rest-clause-ok
 returns-in_default-rest-clause-ok c =
     let so_far = c.loop-now.invariant.steps in
     let grows = c.in_ok-now.ensures.grows in
-    let two = subst (λ (o : Option Frame). Turns c.args.self.now.decoder.table.now (message c.args.self.now.decoder) c.loop-now.rest (at_of c.loop-now.state) (at_of c.read_next_leaves.new.state) (c.read_next_leaves.new.state.steps - c.loop-now.state.steps) (left_over o)) c.in-Some.is c.in_ok-now.ensures.ok in
-    let held : Turns c.args.self.now.decoder.table.now (message c.args.self.now.decoder) c.args.frame (at_of c.args.state.now) (at_of c.read_next_leaves.new.state)
-    (c.read_next_leaves.new.state.steps - c.args.state.now.steps) (left_over (Some c.in-Some.now)) = turns_then c.args.self.now.decoder.table.now
-    (message c.args.self.now.decoder) c.args.frame (at_of c.args.state.now) (at_of c.loop-now.state) (c.loop-now.state.steps - c.args.state.now.steps)
-    c.loop-now.rest c.loop-now.invariant.turns (at_of c.read_next_leaves.new.state) _ _ (left_over (Some c.in-Some.now)) (omega (arith, so_far, grows))
-    two in
+    let held = leaves_on c.args.self.now.decoder.table.now (message c.args.self.now.decoder) c.args.frame c.loop-now.rest c.in-Some.now (at_of c.args.state.now) (at_of c.loop-now.state) (at_of c.read_next_leaves.new.state)
+    c.args.state.now.steps c.loop-now.state.steps c.read_next_leaves.new.state.steps c.loop-now.invariant.turns so_far grows _ c.in-Some.is c.in_ok-now.ensures.ok in
     let rises = c.in_ok-left.ensures.rises in
     let own = turn_alone c.args.self.now.decoder.table.now (message c.args.self.now.decoder) c.in-Some.now (at_of c.read_next_leaves.new.state) (at_of c.take_member.new.state)
     (c.take_member.new.state.steps - c.read_next_leaves.new.state.steps) c.in_ok-left.left.under c.in_ok-left.left.turn c.in-None.is c.in_ok-left.ensures.ok in
-    let read : Turns c.args.self.now.decoder.table.now (message c.args.self.now.decoder) c.args.frame (at_of c.args.state.now) (at_of c.take_member.new.state)
-    (c.take_member.new.state.steps - c.args.state.now.steps) c.in_ok-left.left.turn = turns_then c.args.self.now.decoder.table.now (message c.args.self.now.decoder)
-    c.args.frame (at_of c.args.state.now) (at_of c.read_next_leaves.new.state) (c.read_next_leaves.new.state.steps - c.args.state.now.steps) c.in-Some.now
-    held (at_of c.take_member.new.state) _ _ c.in_ok-left.left.turn (omega (arith, so_far, grows, rises)) own in
+    let read = turn_on c.args.self.now.decoder.table.now (message c.args.self.now.decoder) c.args.frame c.in-Some.now (at_of c.args.state.now) (at_of c.read_next_leaves.new.state) (at_of c.take_member.new.state)
+    c.args.state.now.steps c.read_next_leaves.new.state.steps c.take_member.new.state.steps c.in_ok-left.left.turn held (omega (arith, so_far, grows)) (omega (arith, rises)) own in
     read
 
 pub returns-in_default-rest-clause-rises : goal.returns-in_default-rest-clause-rises
@@ -145,12 +124,8 @@ pub returns-in_default-rest-clause-cost : goal.returns-in_default-rest-clause-co
 returns-in_default-rest-clause-cost c =
     let so_far = c.loop-now.invariant.steps in
     let grows = c.in_ok-now.ensures.grows in
-    let two = subst (λ (o : Option Frame). Turns c.args.self.now.decoder.table.now (message c.args.self.now.decoder) c.loop-now.rest (at_of c.loop-now.state) (at_of c.read_next_leaves.new.state) (c.read_next_leaves.new.state.steps - c.loop-now.state.steps) (left_over o)) c.in-Some.is c.in_ok-now.ensures.ok in
-    let held : Turns c.args.self.now.decoder.table.now (message c.args.self.now.decoder) c.args.frame (at_of c.args.state.now) (at_of c.read_next_leaves.new.state)
-    (c.read_next_leaves.new.state.steps - c.args.state.now.steps) (left_over (Some c.in-Some.now)) = turns_then c.args.self.now.decoder.table.now
-    (message c.args.self.now.decoder) c.args.frame (at_of c.args.state.now) (at_of c.loop-now.state) (c.loop-now.state.steps - c.args.state.now.steps)
-    c.loop-now.rest c.loop-now.invariant.turns (at_of c.read_next_leaves.new.state) _ _ (left_over (Some c.in-Some.now)) (omega (arith, so_far, grows))
-    two in
+    let held = leaves_on c.args.self.now.decoder.table.now (message c.args.self.now.decoder) c.args.frame c.loop-now.rest c.in-Some.now (at_of c.args.state.now) (at_of c.loop-now.state) (at_of c.read_next_leaves.new.state)
+    c.args.state.now.steps c.loop-now.state.steps c.read_next_leaves.new.state.steps c.loop-now.invariant.turns so_far grows _ c.in-Some.is c.in_ok-now.ensures.ok in
     let less_now = held.less in
     omega (arith, less_now, so_far, grows, c.in_ok-left.ensures.cost)
 
@@ -158,19 +133,13 @@ pub read_next_leaves-requires-in-loop-now-clause-frame : goal.read_next_leaves-r
 read_next_leaves-requires-in-loop-now-clause-frame c =
     let so_far = c.loop-now.invariant.steps in
     let grows = c.in_ok-now.ensures.grows in
-    let two = subst (λ (o : Option Frame). Turns c.args.self.now.decoder.table.now (message c.args.self.now.decoder) c.loop-now.rest (at_of c.loop-now.state) (at_of c.read_next_leaves.new.state) (c.read_next_leaves.new.state.steps - c.loop-now.state.steps) (left_over o)) c.in-Some.is c.in_ok-now.ensures.ok in
-    let held : Turns c.args.self.now.decoder.table.now (message c.args.self.now.decoder) c.args.frame (at_of c.args.state.now) (at_of c.read_next_leaves.new.state)
-    (c.read_next_leaves.new.state.steps - c.args.state.now.steps) (left_over (Some c.in-Some.now)) = turns_then c.args.self.now.decoder.table.now
-    (message c.args.self.now.decoder) c.args.frame (at_of c.args.state.now) (at_of c.loop-now.state) (c.loop-now.state.steps - c.args.state.now.steps)
-    c.loop-now.rest c.loop-now.invariant.turns (at_of c.read_next_leaves.new.state) _ _ (left_over (Some c.in-Some.now)) (omega (arith, so_far, grows))
-    two in
+    let held = leaves_on c.args.self.now.decoder.table.now (message c.args.self.now.decoder) c.args.frame c.loop-now.rest c.in-Some.now (at_of c.args.state.now) (at_of c.loop-now.state) (at_of c.read_next_leaves.new.state)
+    c.args.state.now.steps c.loop-now.state.steps c.read_next_leaves.new.state.steps c.loop-now.invariant.turns so_far grows _ c.in-Some.is c.in_ok-now.ensures.ok in
     let rises = c.in_ok-left.ensures.rises in
     let own = turn_alone c.args.self.now.decoder.table.now (message c.args.self.now.decoder) c.in-Some.now (at_of c.read_next_leaves.new.state) (at_of c.take_member.new.state)
     (c.take_member.new.state.steps - c.read_next_leaves.new.state.steps) c.in_ok-left.left.under c.in_ok-left.left.turn c.in-None.is c.in_ok-left.ensures.ok in
-    let read : Turns c.args.self.now.decoder.table.now (message c.args.self.now.decoder) c.args.frame (at_of c.args.state.now) (at_of c.take_member.new.state)
-    (c.take_member.new.state.steps - c.args.state.now.steps) c.in_ok-left.left.turn = turns_then c.args.self.now.decoder.table.now (message c.args.self.now.decoder)
-    c.args.frame (at_of c.args.state.now) (at_of c.read_next_leaves.new.state) (c.read_next_leaves.new.state.steps - c.args.state.now.steps) c.in-Some.now
-    held (at_of c.take_member.new.state) _ _ c.in_ok-left.left.turn (omega (arith, so_far, grows, rises)) own in
+    let read = turn_on c.args.self.now.decoder.table.now (message c.args.self.now.decoder) c.args.frame c.in-Some.now (at_of c.args.state.now) (at_of c.read_next_leaves.new.state) (at_of c.take_member.new.state)
+    c.args.state.now.steps c.read_next_leaves.new.state.steps c.take_member.new.state.steps c.in_ok-left.left.turn held (omega (arith, so_far, grows)) (omega (arith, rises)) own in
     let turn : c.in_ok-left.left.turn ≡ record { below = Some c.in-Some-below-2.below; rest = Some c.in-Some-rest.after } = λ i. record { below = c.in-Some-below-2.is i; rest = c.in-Some-rest.is i } in
     let both = subst (λ (x : Turn). Turns c.args.self.now.decoder.table.now (message c.args.self.now.decoder) c.args.frame (at_of c.args.state.now) (at_of c.take_member.new.state) (c.take_member.new.state.steps - c.args.state.now.steps) x) turn read in
     both.below_fine.0
@@ -179,19 +148,13 @@ pub read_next_leaves-requires-in-loop-now-clause-state : goal.read_next_leaves-r
 read_next_leaves-requires-in-loop-now-clause-state c =
     let so_far = c.loop-now.invariant.steps in
     let grows = c.in_ok-now.ensures.grows in
-    let two = subst (λ (o : Option Frame). Turns c.args.self.now.decoder.table.now (message c.args.self.now.decoder) c.loop-now.rest (at_of c.loop-now.state) (at_of c.read_next_leaves.new.state) (c.read_next_leaves.new.state.steps - c.loop-now.state.steps) (left_over o)) c.in-Some.is c.in_ok-now.ensures.ok in
-    let held : Turns c.args.self.now.decoder.table.now (message c.args.self.now.decoder) c.args.frame (at_of c.args.state.now) (at_of c.read_next_leaves.new.state)
-    (c.read_next_leaves.new.state.steps - c.args.state.now.steps) (left_over (Some c.in-Some.now)) = turns_then c.args.self.now.decoder.table.now
-    (message c.args.self.now.decoder) c.args.frame (at_of c.args.state.now) (at_of c.loop-now.state) (c.loop-now.state.steps - c.args.state.now.steps)
-    c.loop-now.rest c.loop-now.invariant.turns (at_of c.read_next_leaves.new.state) _ _ (left_over (Some c.in-Some.now)) (omega (arith, so_far, grows))
-    two in
+    let held = leaves_on c.args.self.now.decoder.table.now (message c.args.self.now.decoder) c.args.frame c.loop-now.rest c.in-Some.now (at_of c.args.state.now) (at_of c.loop-now.state) (at_of c.read_next_leaves.new.state)
+    c.args.state.now.steps c.loop-now.state.steps c.read_next_leaves.new.state.steps c.loop-now.invariant.turns so_far grows _ c.in-Some.is c.in_ok-now.ensures.ok in
     let rises = c.in_ok-left.ensures.rises in
     let own = turn_alone c.args.self.now.decoder.table.now (message c.args.self.now.decoder) c.in-Some.now (at_of c.read_next_leaves.new.state) (at_of c.take_member.new.state)
     (c.take_member.new.state.steps - c.read_next_leaves.new.state.steps) c.in_ok-left.left.under c.in_ok-left.left.turn c.in-None.is c.in_ok-left.ensures.ok in
-    let read : Turns c.args.self.now.decoder.table.now (message c.args.self.now.decoder) c.args.frame (at_of c.args.state.now) (at_of c.take_member.new.state)
-    (c.take_member.new.state.steps - c.args.state.now.steps) c.in_ok-left.left.turn = turns_then c.args.self.now.decoder.table.now (message c.args.self.now.decoder)
-    c.args.frame (at_of c.args.state.now) (at_of c.read_next_leaves.new.state) (c.read_next_leaves.new.state.steps - c.args.state.now.steps) c.in-Some.now
-    held (at_of c.take_member.new.state) _ _ c.in_ok-left.left.turn (omega (arith, so_far, grows, rises)) own in
+    let read = turn_on c.args.self.now.decoder.table.now (message c.args.self.now.decoder) c.args.frame c.in-Some.now (at_of c.args.state.now) (at_of c.read_next_leaves.new.state) (at_of c.take_member.new.state)
+    c.args.state.now.steps c.read_next_leaves.new.state.steps c.take_member.new.state.steps c.in_ok-left.left.turn held (omega (arith, so_far, grows)) (omega (arith, rises)) own in
     let turn : c.in_ok-left.left.turn ≡ record { below = Some c.in-Some-below-2.below; rest = Some c.in-Some-rest.after } = λ i. record { below = c.in-Some-below-2.is i; rest = c.in-Some-rest.is i } in
     let both = subst (λ (x : Turn). Turns c.args.self.now.decoder.table.now (message c.args.self.now.decoder) c.args.frame (at_of c.args.state.now) (at_of c.take_member.new.state) (c.take_member.new.state.steps - c.args.state.now.steps) x) turn read in
     both.state
@@ -200,19 +163,13 @@ pub read_next_leaves-requires-in-loop-now-clause-budget : goal.read_next_leaves-
 read_next_leaves-requires-in-loop-now-clause-budget c =
     let so_far = c.loop-now.invariant.steps in
     let grows = c.in_ok-now.ensures.grows in
-    let two = subst (λ (o : Option Frame). Turns c.args.self.now.decoder.table.now (message c.args.self.now.decoder) c.loop-now.rest (at_of c.loop-now.state) (at_of c.read_next_leaves.new.state) (c.read_next_leaves.new.state.steps - c.loop-now.state.steps) (left_over o)) c.in-Some.is c.in_ok-now.ensures.ok in
-    let held : Turns c.args.self.now.decoder.table.now (message c.args.self.now.decoder) c.args.frame (at_of c.args.state.now) (at_of c.read_next_leaves.new.state)
-    (c.read_next_leaves.new.state.steps - c.args.state.now.steps) (left_over (Some c.in-Some.now)) = turns_then c.args.self.now.decoder.table.now
-    (message c.args.self.now.decoder) c.args.frame (at_of c.args.state.now) (at_of c.loop-now.state) (c.loop-now.state.steps - c.args.state.now.steps)
-    c.loop-now.rest c.loop-now.invariant.turns (at_of c.read_next_leaves.new.state) _ _ (left_over (Some c.in-Some.now)) (omega (arith, so_far, grows))
-    two in
+    let held = leaves_on c.args.self.now.decoder.table.now (message c.args.self.now.decoder) c.args.frame c.loop-now.rest c.in-Some.now (at_of c.args.state.now) (at_of c.loop-now.state) (at_of c.read_next_leaves.new.state)
+    c.args.state.now.steps c.loop-now.state.steps c.read_next_leaves.new.state.steps c.loop-now.invariant.turns so_far grows _ c.in-Some.is c.in_ok-now.ensures.ok in
     let rises = c.in_ok-left.ensures.rises in
     let own = turn_alone c.args.self.now.decoder.table.now (message c.args.self.now.decoder) c.in-Some.now (at_of c.read_next_leaves.new.state) (at_of c.take_member.new.state)
     (c.take_member.new.state.steps - c.read_next_leaves.new.state.steps) c.in_ok-left.left.under c.in_ok-left.left.turn c.in-None.is c.in_ok-left.ensures.ok in
-    let read : Turns c.args.self.now.decoder.table.now (message c.args.self.now.decoder) c.args.frame (at_of c.args.state.now) (at_of c.take_member.new.state)
-    (c.take_member.new.state.steps - c.args.state.now.steps) c.in_ok-left.left.turn = turns_then c.args.self.now.decoder.table.now (message c.args.self.now.decoder)
-    c.args.frame (at_of c.args.state.now) (at_of c.read_next_leaves.new.state) (c.read_next_leaves.new.state.steps - c.args.state.now.steps) c.in-Some.now
-    held (at_of c.take_member.new.state) _ _ c.in_ok-left.left.turn (omega (arith, so_far, grows, rises)) own in
+    let read = turn_on c.args.self.now.decoder.table.now (message c.args.self.now.decoder) c.args.frame c.in-Some.now (at_of c.args.state.now) (at_of c.read_next_leaves.new.state) (at_of c.take_member.new.state)
+    c.args.state.now.steps c.read_next_leaves.new.state.steps c.take_member.new.state.steps c.in_ok-left.left.turn held (omega (arith, so_far, grows)) (omega (arith, rises)) own in
     let turn : c.in_ok-left.left.turn ≡ record { below = Some c.in-Some-below-2.below; rest = Some c.in-Some-rest.after } = λ i. record { below = c.in-Some-below-2.is i; rest = c.in-Some-rest.is i } in
     let both = subst (λ (x : Turn). Turns c.args.self.now.decoder.table.now (message c.args.self.now.decoder) c.args.frame (at_of c.args.state.now) (at_of c.take_member.new.state) (c.take_member.new.state.steps - c.args.state.now.steps) x) turn read in
     let less_both = both.less in
@@ -222,19 +179,13 @@ pub returns-in_err-inner-clause-cost : goal.returns-in_err-inner-clause-cost
 returns-in_err-inner-clause-cost c =
     let so_far = c.loop-now.invariant.steps in
     let grows = c.in_ok-now.ensures.grows in
-    let two = subst (λ (o : Option Frame). Turns c.args.self.now.decoder.table.now (message c.args.self.now.decoder) c.loop-now.rest (at_of c.loop-now.state) (at_of c.read_next_leaves.new.state) (c.read_next_leaves.new.state.steps - c.loop-now.state.steps) (left_over o)) c.in-Some.is c.in_ok-now.ensures.ok in
-    let held : Turns c.args.self.now.decoder.table.now (message c.args.self.now.decoder) c.args.frame (at_of c.args.state.now) (at_of c.read_next_leaves.new.state)
-    (c.read_next_leaves.new.state.steps - c.args.state.now.steps) (left_over (Some c.in-Some.now)) = turns_then c.args.self.now.decoder.table.now
-    (message c.args.self.now.decoder) c.args.frame (at_of c.args.state.now) (at_of c.loop-now.state) (c.loop-now.state.steps - c.args.state.now.steps)
-    c.loop-now.rest c.loop-now.invariant.turns (at_of c.read_next_leaves.new.state) _ _ (left_over (Some c.in-Some.now)) (omega (arith, so_far, grows))
-    two in
+    let held = leaves_on c.args.self.now.decoder.table.now (message c.args.self.now.decoder) c.args.frame c.loop-now.rest c.in-Some.now (at_of c.args.state.now) (at_of c.loop-now.state) (at_of c.read_next_leaves.new.state)
+    c.args.state.now.steps c.loop-now.state.steps c.read_next_leaves.new.state.steps c.loop-now.invariant.turns so_far grows _ c.in-Some.is c.in_ok-now.ensures.ok in
     let rises = c.in_ok-left.ensures.rises in
     let own = turn_alone c.args.self.now.decoder.table.now (message c.args.self.now.decoder) c.in-Some.now (at_of c.read_next_leaves.new.state) (at_of c.take_member.new.state)
     (c.take_member.new.state.steps - c.read_next_leaves.new.state.steps) c.in_ok-left.left.under c.in_ok-left.left.turn c.in-None.is c.in_ok-left.ensures.ok in
-    let read : Turns c.args.self.now.decoder.table.now (message c.args.self.now.decoder) c.args.frame (at_of c.args.state.now) (at_of c.take_member.new.state)
-    (c.take_member.new.state.steps - c.args.state.now.steps) c.in_ok-left.left.turn = turns_then c.args.self.now.decoder.table.now (message c.args.self.now.decoder)
-    c.args.frame (at_of c.args.state.now) (at_of c.read_next_leaves.new.state) (c.read_next_leaves.new.state.steps - c.args.state.now.steps) c.in-Some.now
-    held (at_of c.take_member.new.state) _ _ c.in_ok-left.left.turn (omega (arith, so_far, grows, rises)) own in
+    let read = turn_on c.args.self.now.decoder.table.now (message c.args.self.now.decoder) c.args.frame c.in-Some.now (at_of c.args.state.now) (at_of c.read_next_leaves.new.state) (at_of c.take_member.new.state)
+    c.args.state.now.steps c.read_next_leaves.new.state.steps c.take_member.new.state.steps c.in_ok-left.left.turn held (omega (arith, so_far, grows)) (omega (arith, rises)) own in
     let turn : c.in_ok-left.left.turn ≡ record { below = Some c.in-Some-below-2.below; rest = Some c.in-Some-rest.after } = λ i. record { below = c.in-Some-below-2.is i; rest = c.in-Some-rest.is i } in
     let both = subst (λ (x : Turn). Turns c.args.self.now.decoder.table.now (message c.args.self.now.decoder) c.args.frame (at_of c.args.state.now) (at_of c.take_member.new.state) (c.take_member.new.state.steps - c.args.state.now.steps) x) turn read in
     let less_both = both.less in
@@ -244,19 +195,13 @@ pub returns-in-loop-now-clause-ok : goal.returns-in-loop-now-clause-ok
 returns-in-loop-now-clause-ok c =
     let so_far = c.loop-now.invariant.steps in
     let grows = c.in_ok-now.ensures.grows in
-    let two = subst (λ (o : Option Frame). Turns c.args.self.now.decoder.table.now (message c.args.self.now.decoder) c.loop-now.rest (at_of c.loop-now.state) (at_of c.read_next_leaves.new.state) (c.read_next_leaves.new.state.steps - c.loop-now.state.steps) (left_over o)) c.in-Some.is c.in_ok-now.ensures.ok in
-    let held : Turns c.args.self.now.decoder.table.now (message c.args.self.now.decoder) c.args.frame (at_of c.args.state.now) (at_of c.read_next_leaves.new.state)
-    (c.read_next_leaves.new.state.steps - c.args.state.now.steps) (left_over (Some c.in-Some.now)) = turns_then c.args.self.now.decoder.table.now
-    (message c.args.self.now.decoder) c.args.frame (at_of c.args.state.now) (at_of c.loop-now.state) (c.loop-now.state.steps - c.args.state.now.steps)
-    c.loop-now.rest c.loop-now.invariant.turns (at_of c.read_next_leaves.new.state) _ _ (left_over (Some c.in-Some.now)) (omega (arith, so_far, grows))
-    two in
+    let held = leaves_on c.args.self.now.decoder.table.now (message c.args.self.now.decoder) c.args.frame c.loop-now.rest c.in-Some.now (at_of c.args.state.now) (at_of c.loop-now.state) (at_of c.read_next_leaves.new.state)
+    c.args.state.now.steps c.loop-now.state.steps c.read_next_leaves.new.state.steps c.loop-now.invariant.turns so_far grows _ c.in-Some.is c.in_ok-now.ensures.ok in
     let rises = c.in_ok-left.ensures.rises in
     let own = turn_alone c.args.self.now.decoder.table.now (message c.args.self.now.decoder) c.in-Some.now (at_of c.read_next_leaves.new.state) (at_of c.take_member.new.state)
     (c.take_member.new.state.steps - c.read_next_leaves.new.state.steps) c.in_ok-left.left.under c.in_ok-left.left.turn c.in-None.is c.in_ok-left.ensures.ok in
-    let read : Turns c.args.self.now.decoder.table.now (message c.args.self.now.decoder) c.args.frame (at_of c.args.state.now) (at_of c.take_member.new.state)
-    (c.take_member.new.state.steps - c.args.state.now.steps) c.in_ok-left.left.turn = turns_then c.args.self.now.decoder.table.now (message c.args.self.now.decoder)
-    c.args.frame (at_of c.args.state.now) (at_of c.read_next_leaves.new.state) (c.read_next_leaves.new.state.steps - c.args.state.now.steps) c.in-Some.now
-    held (at_of c.take_member.new.state) _ _ c.in_ok-left.left.turn (omega (arith, so_far, grows, rises)) own in
+    let read = turn_on c.args.self.now.decoder.table.now (message c.args.self.now.decoder) c.args.frame c.in-Some.now (at_of c.args.state.now) (at_of c.read_next_leaves.new.state) (at_of c.take_member.new.state)
+    c.args.state.now.steps c.read_next_leaves.new.state.steps c.take_member.new.state.steps c.in_ok-left.left.turn held (omega (arith, so_far, grows)) (omega (arith, rises)) own in
     let turn : c.in_ok-left.left.turn ≡ record { below = Some c.in-Some-below-2.below; rest = Some c.in-Some-rest.after } = λ i. record { below = c.in-Some-below-2.is i; rest = c.in-Some-rest.is i } in
     let both = subst (λ (x : Turn). Turns c.args.self.now.decoder.table.now (message c.args.self.now.decoder) c.args.frame (at_of c.args.state.now) (at_of c.take_member.new.state) (c.take_member.new.state.steps - c.args.state.now.steps) x) turn read in
     let on = c.in_ok-inner.ensures.grows in
@@ -271,19 +216,13 @@ pub loop-now-preserved-in_default-below-2 : goal.loop-now-preserved-in_default-b
 loop-now-preserved-in_default-below-2 c =
     let so_far = c.loop-now.invariant.steps in
     let grows = c.in_ok-now.ensures.grows in
-    let two = subst (λ (o : Option Frame). Turns c.args.self.now.decoder.table.now (message c.args.self.now.decoder) c.loop-now.rest (at_of c.loop-now.state) (at_of c.read_next_leaves.new.state) (c.read_next_leaves.new.state.steps - c.loop-now.state.steps) (left_over o)) c.in-Some.is c.in_ok-now.ensures.ok in
-    let held : Turns c.args.self.now.decoder.table.now (message c.args.self.now.decoder) c.args.frame (at_of c.args.state.now) (at_of c.read_next_leaves.new.state)
-    (c.read_next_leaves.new.state.steps - c.args.state.now.steps) (left_over (Some c.in-Some.now)) = turns_then c.args.self.now.decoder.table.now
-    (message c.args.self.now.decoder) c.args.frame (at_of c.args.state.now) (at_of c.loop-now.state) (c.loop-now.state.steps - c.args.state.now.steps)
-    c.loop-now.rest c.loop-now.invariant.turns (at_of c.read_next_leaves.new.state) _ _ (left_over (Some c.in-Some.now)) (omega (arith, so_far, grows))
-    two in
+    let held = leaves_on c.args.self.now.decoder.table.now (message c.args.self.now.decoder) c.args.frame c.loop-now.rest c.in-Some.now (at_of c.args.state.now) (at_of c.loop-now.state) (at_of c.read_next_leaves.new.state)
+    c.args.state.now.steps c.loop-now.state.steps c.read_next_leaves.new.state.steps c.loop-now.invariant.turns so_far grows _ c.in-Some.is c.in_ok-now.ensures.ok in
     let rises = c.in_ok-left.ensures.rises in
     let own = turn_alone c.args.self.now.decoder.table.now (message c.args.self.now.decoder) c.in-Some.now (at_of c.read_next_leaves.new.state) (at_of c.take_member.new.state)
     (c.take_member.new.state.steps - c.read_next_leaves.new.state.steps) c.in_ok-left.left.under c.in_ok-left.left.turn c.in-None.is c.in_ok-left.ensures.ok in
-    let read : Turns c.args.self.now.decoder.table.now (message c.args.self.now.decoder) c.args.frame (at_of c.args.state.now) (at_of c.take_member.new.state)
-    (c.take_member.new.state.steps - c.args.state.now.steps) c.in_ok-left.left.turn = turns_then c.args.self.now.decoder.table.now (message c.args.self.now.decoder)
-    c.args.frame (at_of c.args.state.now) (at_of c.read_next_leaves.new.state) (c.read_next_leaves.new.state.steps - c.args.state.now.steps) c.in-Some.now
-    held (at_of c.take_member.new.state) _ _ c.in_ok-left.left.turn (omega (arith, so_far, grows, rises)) own in
+    let read = turn_on c.args.self.now.decoder.table.now (message c.args.self.now.decoder) c.args.frame c.in-Some.now (at_of c.args.state.now) (at_of c.read_next_leaves.new.state) (at_of c.take_member.new.state)
+    c.args.state.now.steps c.read_next_leaves.new.state.steps c.take_member.new.state.steps c.in_ok-left.left.turn held (omega (arith, so_far, grows)) (omega (arith, rises)) own in
     let turn : c.in_ok-left.left.turn ≡ left_over (Some c.in-Some-rest.after) = λ i. record { below = c.in_default-below-2.is i; rest = c.in-Some-rest.is i } in
     let alone = subst (λ (x : Turn). Turns c.args.self.now.decoder.table.now (message c.args.self.now.decoder) c.args.frame (at_of c.args.state.now) (at_of c.take_member.new.state) (c.take_member.new.state.steps - c.args.state.now.steps) x) turn read in
     record { holds = c.take_member.ensures.holds; turns = alone; steps = omega (arith, so_far, grows, rises) }
@@ -292,19 +231,13 @@ pub loop-now-preserved-then-is_over : goal.loop-now-preserved-then-is_over
 loop-now-preserved-then-is_over c =
     let so_far = c.loop-now.invariant.steps in
     let grows = c.in_ok-now.ensures.grows in
-    let two = subst (λ (o : Option Frame). Turns c.args.self.now.decoder.table.now (message c.args.self.now.decoder) c.loop-now.rest (at_of c.loop-now.state) (at_of c.read_next_leaves.new.state) (c.read_next_leaves.new.state.steps - c.loop-now.state.steps) (left_over o)) c.in-Some.is c.in_ok-now.ensures.ok in
-    let held : Turns c.args.self.now.decoder.table.now (message c.args.self.now.decoder) c.args.frame (at_of c.args.state.now) (at_of c.read_next_leaves.new.state)
-    (c.read_next_leaves.new.state.steps - c.args.state.now.steps) (left_over (Some c.in-Some.now)) = turns_then c.args.self.now.decoder.table.now
-    (message c.args.self.now.decoder) c.args.frame (at_of c.args.state.now) (at_of c.loop-now.state) (c.loop-now.state.steps - c.args.state.now.steps)
-    c.loop-now.rest c.loop-now.invariant.turns (at_of c.read_next_leaves.new.state) _ _ (left_over (Some c.in-Some.now)) (omega (arith, so_far, grows))
-    two in
+    let held = leaves_on c.args.self.now.decoder.table.now (message c.args.self.now.decoder) c.args.frame c.loop-now.rest c.in-Some.now (at_of c.args.state.now) (at_of c.loop-now.state) (at_of c.read_next_leaves.new.state)
+    c.args.state.now.steps c.loop-now.state.steps c.read_next_leaves.new.state.steps c.loop-now.invariant.turns so_far grows _ c.in-Some.is c.in_ok-now.ensures.ok in
     let rises = c.in_ok-left.ensures.rises in
     let own = turn_alone c.args.self.now.decoder.table.now (message c.args.self.now.decoder) c.in-Some.now (at_of c.read_next_leaves.new.state) (at_of c.take_member.new.state)
     (c.take_member.new.state.steps - c.read_next_leaves.new.state.steps) c.in_ok-left.left.under c.in_ok-left.left.turn c.in-None.is c.in_ok-left.ensures.ok in
-    let read : Turns c.args.self.now.decoder.table.now (message c.args.self.now.decoder) c.args.frame (at_of c.args.state.now) (at_of c.take_member.new.state)
-    (c.take_member.new.state.steps - c.args.state.now.steps) c.in_ok-left.left.turn = turns_then c.args.self.now.decoder.table.now (message c.args.self.now.decoder)
-    c.args.frame (at_of c.args.state.now) (at_of c.read_next_leaves.new.state) (c.read_next_leaves.new.state.steps - c.args.state.now.steps) c.in-Some.now
-    held (at_of c.take_member.new.state) _ _ c.in_ok-left.left.turn (omega (arith, so_far, grows, rises)) own in
+    let read = turn_on c.args.self.now.decoder.table.now (message c.args.self.now.decoder) c.args.frame c.in-Some.now (at_of c.args.state.now) (at_of c.read_next_leaves.new.state) (at_of c.take_member.new.state)
+    c.args.state.now.steps c.read_next_leaves.new.state.steps c.take_member.new.state.steps c.in_ok-left.left.turn held (omega (arith, so_far, grows)) (omega (arith, rises)) own in
     let turn : c.in_ok-left.left.turn ≡ record { below = Some c.in-Some-below.below; rest = Some c.in-Some-rest.after } = λ i. record { below = c.in-Some-below.is i; rest = c.in-Some-rest.is i } in
     let both = subst (λ (x : Turn). Turns c.args.self.now.decoder.table.now (message c.args.self.now.decoder) c.args.frame (at_of c.args.state.now) (at_of c.take_member.new.state) (c.take_member.new.state.steps - c.args.state.now.steps) x) turn read in
     let over = c.is_over.ensures.0 c.if-is_over.true in
@@ -320,19 +253,13 @@ pub loop-now-preserved : goal.loop-now-preserved
 loop-now-preserved c =
     let so_far = c.loop-now.invariant.steps in
     let grows = c.in_ok-now.ensures.grows in
-    let two = subst (λ (o : Option Frame). Turns c.args.self.now.decoder.table.now (message c.args.self.now.decoder) c.loop-now.rest (at_of c.loop-now.state) (at_of c.read_next_leaves.new.state) (c.read_next_leaves.new.state.steps - c.loop-now.state.steps) (left_over o)) c.in-Some.is c.in_ok-now.ensures.ok in
-    let held : Turns c.args.self.now.decoder.table.now (message c.args.self.now.decoder) c.args.frame (at_of c.args.state.now) (at_of c.read_next_leaves.new.state)
-    (c.read_next_leaves.new.state.steps - c.args.state.now.steps) (left_over (Some c.in-Some.now)) = turns_then c.args.self.now.decoder.table.now
-    (message c.args.self.now.decoder) c.args.frame (at_of c.args.state.now) (at_of c.loop-now.state) (c.loop-now.state.steps - c.args.state.now.steps)
-    c.loop-now.rest c.loop-now.invariant.turns (at_of c.read_next_leaves.new.state) _ _ (left_over (Some c.in-Some.now)) (omega (arith, so_far, grows))
-    two in
+    let held = leaves_on c.args.self.now.decoder.table.now (message c.args.self.now.decoder) c.args.frame c.loop-now.rest c.in-Some.now (at_of c.args.state.now) (at_of c.loop-now.state) (at_of c.read_next_leaves.new.state)
+    c.args.state.now.steps c.loop-now.state.steps c.read_next_leaves.new.state.steps c.loop-now.invariant.turns so_far grows _ c.in-Some.is c.in_ok-now.ensures.ok in
     let rises = c.in_ok-left.ensures.rises in
     let own = turn_alone c.args.self.now.decoder.table.now (message c.args.self.now.decoder) c.in-Some.now (at_of c.read_next_leaves.new.state) (at_of c.take_member.new.state)
     (c.take_member.new.state.steps - c.read_next_leaves.new.state.steps) c.in_ok-left.left.under c.in_ok-left.left.turn c.in-None.is c.in_ok-left.ensures.ok in
-    let read : Turns c.args.self.now.decoder.table.now (message c.args.self.now.decoder) c.args.frame (at_of c.args.state.now) (at_of c.take_member.new.state)
-    (c.take_member.new.state.steps - c.args.state.now.steps) c.in_ok-left.left.turn = turns_then c.args.self.now.decoder.table.now (message c.args.self.now.decoder)
-    c.args.frame (at_of c.args.state.now) (at_of c.read_next_leaves.new.state) (c.read_next_leaves.new.state.steps - c.args.state.now.steps) c.in-Some.now
-    held (at_of c.take_member.new.state) _ _ c.in_ok-left.left.turn (omega (arith, so_far, grows, rises)) own in
+    let read = turn_on c.args.self.now.decoder.table.now (message c.args.self.now.decoder) c.args.frame c.in-Some.now (at_of c.args.state.now) (at_of c.read_next_leaves.new.state) (at_of c.take_member.new.state)
+    c.args.state.now.steps c.read_next_leaves.new.state.steps c.take_member.new.state.steps c.in_ok-left.left.turn held (omega (arith, so_far, grows)) (omega (arith, rises)) own in
     let turn : c.in_ok-left.left.turn ≡ record { below = Some c.in-Some-below-2.below; rest = Some c.in-Some-rest.after } = λ i. record { below = c.in-Some-below-2.is i; rest = c.in-Some-rest.is i } in
     let both = subst (λ (x : Turn). Turns c.args.self.now.decoder.table.now (message c.args.self.now.decoder) c.args.frame (at_of c.args.state.now) (at_of c.take_member.new.state) (c.take_member.new.state.steps - c.args.state.now.steps) x) turn read in
     let on = c.in_ok-inner.ensures.grows in
@@ -357,12 +284,8 @@ pub returns-in_err-left-clause-fault_is_true : goal.returns-in_err-left-clause-f
 returns-in_err-left-clause-fault_is_true c =
     let so_far = c.loop-now.invariant.steps in
     let grows = c.in_ok-now.ensures.grows in
-    let two = subst (λ (o : Option Frame). Turns c.args.self.now.decoder.table.now (message c.args.self.now.decoder) c.loop-now.rest (at_of c.loop-now.state) (at_of c.read_next_leaves.new.state) (c.read_next_leaves.new.state.steps - c.loop-now.state.steps) (left_over o)) c.in-Some.is c.in_ok-now.ensures.ok in
-    let held : Turns c.args.self.now.decoder.table.now (message c.args.self.now.decoder) c.args.frame (at_of c.args.state.now) (at_of c.read_next_leaves.new.state)
-    (c.read_next_leaves.new.state.steps - c.args.state.now.steps) (left_over (Some c.in-Some.now)) = turns_then c.args.self.now.decoder.table.now
-    (message c.args.self.now.decoder) c.args.frame (at_of c.args.state.now) (at_of c.loop-now.state) (c.loop-now.state.steps - c.args.state.now.steps)
-    c.loop-now.rest c.loop-now.invariant.turns (at_of c.read_next_leaves.new.state) _ _ (left_over (Some c.in-Some.now)) (omega (arith, so_far, grows))
-    two in
+    let held = leaves_on c.args.self.now.decoder.table.now (message c.args.self.now.decoder) c.args.frame c.loop-now.rest c.in-Some.now (at_of c.args.state.now) (at_of c.loop-now.state) (at_of c.read_next_leaves.new.state)
+    c.args.state.now.steps c.loop-now.state.steps c.read_next_leaves.new.state.steps c.loop-now.invariant.turns so_far grows _ c.in-Some.is c.in_ok-now.ensures.ok in
     passed_on c.from_residual-in_err-left.result c.in_err-left.field-0.0 _ c.from_residual-in_err-left.ensures.1
     (turns_break c.args.self.now.decoder.table.now (message c.args.self.now.decoder) c.args.frame (at_of c.args.state.now) (at_of c.read_next_leaves.new.state) (c.read_next_leaves.new.state.steps - c.args.state.now.steps) c.in-Some.now held _ c.in_err-left.ensures.fault_is_true)
 
@@ -370,19 +293,13 @@ pub returns-in_err-inner-clause-fault_is_true : goal.returns-in_err-inner-clause
 returns-in_err-inner-clause-fault_is_true c =
     let so_far = c.loop-now.invariant.steps in
     let grows = c.in_ok-now.ensures.grows in
-    let two = subst (λ (o : Option Frame). Turns c.args.self.now.decoder.table.now (message c.args.self.now.decoder) c.loop-now.rest (at_of c.loop-now.state) (at_of c.read_next_leaves.new.state) (c.read_next_leaves.new.state.steps - c.loop-now.state.steps) (left_over o)) c.in-Some.is c.in_ok-now.ensures.ok in
-    let held : Turns c.args.self.now.decoder.table.now (message c.args.self.now.decoder) c.args.frame (at_of c.args.state.now) (at_of c.read_next_leaves.new.state)
-    (c.read_next_leaves.new.state.steps - c.args.state.now.steps) (left_over (Some c.in-Some.now)) = turns_then c.args.self.now.decoder.table.now
-    (message c.args.self.now.decoder) c.args.frame (at_of c.args.state.now) (at_of c.loop-now.state) (c.loop-now.state.steps - c.args.state.now.steps)
-    c.loop-now.rest c.loop-now.invariant.turns (at_of c.read_next_leaves.new.state) _ _ (left_over (Some c.in-Some.now)) (omega (arith, so_far, grows))
-    two in
+    let held = leaves_on c.args.self.now.decoder.table.now (message c.args.self.now.decoder) c.args.frame c.loop-now.rest c.in-Some.now (at_of c.args.state.now) (at_of c.loop-now.state) (at_of c.read_next_leaves.new.state)
+    c.args.state.now.steps c.loop-now.state.steps c.read_next_leaves.new.state.steps c.loop-now.invariant.turns so_far grows _ c.in-Some.is c.in_ok-now.ensures.ok in
     let rises = c.in_ok-left.ensures.rises in
     let own = turn_alone c.args.self.now.decoder.table.now (message c.args.self.now.decoder) c.in-Some.now (at_of c.read_next_leaves.new.state) (at_of c.take_member.new.state)
     (c.take_member.new.state.steps - c.read_next_leaves.new.state.steps) c.in_ok-left.left.under c.in_ok-left.left.turn c.in-None.is c.in_ok-left.ensures.ok in
-    let read : Turns c.args.self.now.decoder.table.now (message c.args.self.now.decoder) c.args.frame (at_of c.args.state.now) (at_of c.take_member.new.state)
-    (c.take_member.new.state.steps - c.args.state.now.steps) c.in_ok-left.left.turn = turns_then c.args.self.now.decoder.table.now (message c.args.self.now.decoder)
-    c.args.frame (at_of c.args.state.now) (at_of c.read_next_leaves.new.state) (c.read_next_leaves.new.state.steps - c.args.state.now.steps) c.in-Some.now
-    held (at_of c.take_member.new.state) _ _ c.in_ok-left.left.turn (omega (arith, so_far, grows, rises)) own in
+    let read = turn_on c.args.self.now.decoder.table.now (message c.args.self.now.decoder) c.args.frame c.in-Some.now (at_of c.args.state.now) (at_of c.read_next_leaves.new.state) (at_of c.take_member.new.state)
+    c.args.state.now.steps c.read_next_leaves.new.state.steps c.take_member.new.state.steps c.in_ok-left.left.turn held (omega (arith, so_far, grows)) (omega (arith, rises)) own in
     let turn : c.in_ok-left.left.turn ≡ record { below = Some c.in-Some-below-2.below; rest = Some c.in-Some-rest.after } = λ i. record { below = c.in-Some-below-2.is i; rest = c.in-Some-rest.is i } in
     let both = subst (λ (x : Turn). Turns c.args.self.now.decoder.table.now (message c.args.self.now.decoder) c.args.frame (at_of c.args.state.now) (at_of c.take_member.new.state) (c.take_member.new.state.steps - c.args.state.now.steps) x) turn read in
     passed_on c.from_residual-in_err-inner.result c.in_err-inner.field-0.0 _ c.from_residual-in_err-inner.ensures.1
@@ -393,19 +310,13 @@ pub read_next_leaves-requires-in-loop-now-clause-ready : goal.read_next_leaves-r
 read_next_leaves-requires-in-loop-now-clause-ready c =
     let so_far = c.loop-now.invariant.steps in
     let grows = c.in_ok-now.ensures.grows in
-    let two = subst (λ (o : Option Frame). Turns c.args.self.now.decoder.table.now (message c.args.self.now.decoder) c.loop-now.rest (at_of c.loop-now.state) (at_of c.read_next_leaves.new.state) (c.read_next_leaves.new.state.steps - c.loop-now.state.steps) (left_over o)) c.in-Some.is c.in_ok-now.ensures.ok in
-    let held : Turns c.args.self.now.decoder.table.now (message c.args.self.now.decoder) c.args.frame (at_of c.args.state.now) (at_of c.read_next_leaves.new.state)
-    (c.read_next_leaves.new.state.steps - c.args.state.now.steps) (left_over (Some c.in-Some.now)) = turns_then c.args.self.now.decoder.table.now
-    (message c.args.self.now.decoder) c.args.frame (at_of c.args.state.now) (at_of c.loop-now.state) (c.loop-now.state.steps - c.args.state.now.steps)
-    c.loop-now.rest c.loop-now.invariant.turns (at_of c.read_next_leaves.new.state) _ _ (left_over (Some c.in-Some.now)) (omega (arith, so_far, grows))
-    two in
+    let held = leaves_on c.args.self.now.decoder.table.now (message c.args.self.now.decoder) c.args.frame c.loop-now.rest c.in-Some.now (at_of c.args.state.now) (at_of c.loop-now.state) (at_of c.read_next_leaves.new.state)
+    c.args.state.now.steps c.loop-now.state.steps c.read_next_leaves.new.state.steps c.loop-now.invariant.turns so_far grows _ c.in-Some.is c.in_ok-now.ensures.ok in
     let rises = c.in_ok-left.ensures.rises in
     let own = turn_alone c.args.self.now.decoder.table.now (message c.args.self.now.decoder) c.in-Some.now (at_of c.read_next_leaves.new.state) (at_of c.take_member.new.state)
     (c.take_member.new.state.steps - c.read_next_leaves.new.state.steps) c.in_ok-left.left.under c.in_ok-left.left.turn c.in-None.is c.in_ok-left.ensures.ok in
-    let read : Turns c.args.self.now.decoder.table.now (message c.args.self.now.decoder) c.args.frame (at_of c.args.state.now) (at_of c.take_member.new.state)
-    (c.take_member.new.state.steps - c.args.state.now.steps) c.in_ok-left.left.turn = turns_then c.args.self.now.decoder.table.now (message c.args.self.now.decoder)
-    c.args.frame (at_of c.args.state.now) (at_of c.read_next_leaves.new.state) (c.read_next_leaves.new.state.steps - c.args.state.now.steps) c.in-Some.now
-    held (at_of c.take_member.new.state) _ _ c.in_ok-left.left.turn (omega (arith, so_far, grows, rises)) own in
+    let read = turn_on c.args.self.now.decoder.table.now (message c.args.self.now.decoder) c.args.frame c.in-Some.now (at_of c.args.state.now) (at_of c.read_next_leaves.new.state) (at_of c.take_member.new.state)
+    c.args.state.now.steps c.read_next_leaves.new.state.steps c.take_member.new.state.steps c.in_ok-left.left.turn held (omega (arith, so_far, grows)) (omega (arith, rises)) own in
     let turn : c.in_ok-left.left.turn ≡ record { below = Some c.in-Some-below-2.below; rest = Some c.in-Some-rest.after } = λ i. record { below = c.in-Some-below-2.is i; rest = c.in-Some-rest.is i } in
     let both = subst (λ (x : Turn). Turns c.args.self.now.decoder.table.now (message c.args.self.now.decoder) c.args.frame (at_of c.args.state.now) (at_of c.take_member.new.state) (c.take_member.new.state.steps - c.args.state.now.steps) x) turn read in
     let p = both.moves c.requires.ready.0 c.requires.ready.1 in
@@ -415,19 +326,13 @@ pub returns-in_default-below-clause-ok : goal.returns-in_default-below-clause-ok
 returns-in_default-below-clause-ok c =
     let so_far = c.loop-now.invariant.steps in
     let grows = c.in_ok-now.ensures.grows in
-    let two = subst (λ (o : Option Frame). Turns c.args.self.now.decoder.table.now (message c.args.self.now.decoder) c.loop-now.rest (at_of c.loop-now.state) (at_of c.read_next_leaves.new.state) (c.read_next_leaves.new.state.steps - c.loop-now.state.steps) (left_over o)) c.in-Some.is c.in_ok-now.ensures.ok in
-    let held : Turns c.args.self.now.decoder.table.now (message c.args.self.now.decoder) c.args.frame (at_of c.args.state.now) (at_of c.read_next_leaves.new.state)
-    (c.read_next_leaves.new.state.steps - c.args.state.now.steps) (left_over (Some c.in-Some.now)) = turns_then c.args.self.now.decoder.table.now
-    (message c.args.self.now.decoder) c.args.frame (at_of c.args.state.now) (at_of c.loop-now.state) (c.loop-now.state.steps - c.args.state.now.steps)
-    c.loop-now.rest c.loop-now.invariant.turns (at_of c.read_next_leaves.new.state) _ _ (left_over (Some c.in-Some.now)) (omega (arith, so_far, grows))
-    two in
+    let held = leaves_on c.args.self.now.decoder.table.now (message c.args.self.now.decoder) c.args.frame c.loop-now.rest c.in-Some.now (at_of c.args.state.now) (at_of c.loop-now.state) (at_of c.read_next_leaves.new.state)
+    c.args.state.now.steps c.loop-now.state.steps c.read_next_leaves.new.state.steps c.loop-now.invariant.turns so_far grows _ c.in-Some.is c.in_ok-now.ensures.ok in
     let rises = c.in_ok-left.ensures.rises in
     let own = turn_alone c.args.self.now.decoder.table.now (message c.args.self.now.decoder) c.in-Some.now (at_of c.read_next_leaves.new.state) (at_of c.take_member.new.state)
     (c.take_member.new.state.steps - c.read_next_leaves.new.state.steps) c.in_ok-left.left.under c.in_ok-left.left.turn c.in-None.is c.in_ok-left.ensures.ok in
-    let read : Turns c.args.self.now.decoder.table.now (message c.args.self.now.decoder) c.args.frame (at_of c.args.state.now) (at_of c.take_member.new.state)
-    (c.take_member.new.state.steps - c.args.state.now.steps) c.in_ok-left.left.turn = turns_then c.args.self.now.decoder.table.now (message c.args.self.now.decoder)
-    c.args.frame (at_of c.args.state.now) (at_of c.read_next_leaves.new.state) (c.read_next_leaves.new.state.steps - c.args.state.now.steps) c.in-Some.now
-    held (at_of c.take_member.new.state) _ _ c.in_ok-left.left.turn (omega (arith, so_far, grows, rises)) own in
+    let read = turn_on c.args.self.now.decoder.table.now (message c.args.self.now.decoder) c.args.frame c.in-Some.now (at_of c.args.state.now) (at_of c.read_next_leaves.new.state) (at_of c.take_member.new.state)
+    c.args.state.now.steps c.read_next_leaves.new.state.steps c.take_member.new.state.steps c.in_ok-left.left.turn held (omega (arith, so_far, grows)) (omega (arith, rises)) own in
     let turn : c.in_ok-left.left.turn ≡ left_over (Some c.in-Some-rest.after) = λ i. record { below = c.in_default-below.is i; rest = c.in-Some-rest.is i } in
     let alone = subst (λ (x : Turn). Turns c.args.self.now.decoder.table.now (message c.args.self.now.decoder) c.args.frame (at_of c.args.state.now) (at_of c.take_member.new.state) (c.take_member.new.state.steps - c.args.state.now.steps) x) turn read in
     turns_done c.args.self.now.decoder.table.now c.args.self.now.decoder.fine (message c.args.self.now.decoder) c.args.frame c.in-Some-rest.after (at_of c.args.state.now) (at_of c.take_member.new.state)
@@ -437,12 +342,8 @@ pub returns-in_default-under-clause-ok : goal.returns-in_default-under-clause-ok
 returns-in_default-under-clause-ok c =
     let so_far = c.loop-now.invariant.steps in
     let grows = c.in_ok-now.ensures.grows in
-    let two = subst (λ (o : Option Frame). Turns c.args.self.now.decoder.table.now (message c.args.self.now.decoder) c.loop-now.rest (at_of c.loop-now.state) (at_of c.read_next_leaves.new.state) (c.read_next_leaves.new.state.steps - c.loop-now.state.steps) (left_over o)) c.in-Some.is c.in_ok-now.ensures.ok in
-    let held : Turns c.args.self.now.decoder.table.now (message c.args.self.now.decoder) c.args.frame (at_of c.args.state.now) (at_of c.read_next_leaves.new.state)
-    (c.read_next_leaves.new.state.steps - c.args.state.now.steps) (left_over (Some c.in-Some.now)) = turns_then c.args.self.now.decoder.table.now
-    (message c.args.self.now.decoder) c.args.frame (at_of c.args.state.now) (at_of c.loop-now.state) (c.loop-now.state.steps - c.args.state.now.steps)
-    c.loop-now.rest c.loop-now.invariant.turns (at_of c.read_next_leaves.new.state) _ _ (left_over (Some c.in-Some.now)) (omega (arith, so_far, grows))
-    two in
+    let held = leaves_on c.args.self.now.decoder.table.now (message c.args.self.now.decoder) c.args.frame c.loop-now.rest c.in-Some.now (at_of c.args.state.now) (at_of c.loop-now.state) (at_of c.read_next_leaves.new.state)
+    c.args.state.now.steps c.loop-now.state.steps c.read_next_leaves.new.state.steps c.loop-now.invariant.turns so_far grows _ c.in-Some.is c.in_ok-now.ensures.ok in
     let rises = c.in_ok-left.ensures.rises in
     leaves_then c.args.self.now.decoder.table.now (message c.args.self.now.decoder) c.args.frame (at_of c.args.state.now) (at_of c.read_next_leaves.new.state) (c.read_next_leaves.new.state.steps - c.args.state.now.steps) c.in-Some.now held
     (at_of c.take_member.new.state) _ _ (omega (arith, so_far, grows, rises)) c.in_ok-left.left.under c.in_ok-left.left.turn c.in_ok-left.ensures.ok
