@@ -2,6 +2,7 @@ pub mod Marked
 pub mod Covering
 pub mod Opening
 pub mod Tabled
+pub mod Begun
 pub mod EnvelopeTurns
 pub mod ContentTurns
 pub mod Chosen

@@ -11,7 +11,8 @@ use Rattle.fidl_table_format.specs.Kind.{kind_of}
 use Rattle.fidl_table_format.specs.Section.{header_of, entry_at}
 use Rattle.fidl_decode_model.specs.Machine.{at_of, Visits, VisitFine}
 use Rattle.fidl_decode_model.proofs.Visiting.{fine_as, size_as, leaf_else, leaf_breaks}
-use Rattle.fidl_decode_model.proofs.Holding.{visits_struct, visits_array, struct_fine, array_fine, struct_frame, array_frame}
+use Rattle.fidl_decode_model.proofs.Holding.{visits_array, array_fine, array_frame}
+use Rattle.fidl_decode_values.proofs.Begun.{frame_visits, frame_fine}
 use Rattle.fidl_decode_model.proofs.Boxed.{box_breaks}
 use Rattle.fidl_decode_model.proofs.Listed.{vector_breaks}
 use Rattle.fidl_decode_model.proofs.Turning.{passed_on}
@@ -30,18 +31,14 @@ unreachable-requires c =
 pub returns-in-Struct-clause-ok : goal.returns-in-Struct-clause-ok
 returns-in-Struct-clause-ok c =
     let is : kind_of (entry_at c.args.self.now.table.now c.args.entry).kind ≡ Some Struct = ap (λ (e : Entry). kind_of e.kind) (sym c.entry-e.ensures.value) ∙ sym c.from_number.ensures ∙ c.in-Some.is ∙ ap (λ (k : EntryKind). Some k) c.in-Struct.is in
-    subst (λ (d : Entry). Visits c.args.self.now.table.now (message c.args.self.now) c.args.depth c.args.entry c.args.place (at_of c.args.state.now)
-    (at_of c.args.state.now) (c.args.state.now.steps - c.args.state.now.steps)
-    (Some (struct_frame d c.args.place c.args.depth c.args.in_envelope))) (sym c.entry-e.ensures.value)
-    (visits_struct c.args.self.now.table.now c.args.self.now.fine (message c.args.self.now) c.args.depth c.args.entry c.args.place
-    (at_of c.args.state.now) c.requires.entry c.requires.state c.requires.depth c.args.in_envelope
-    (c.args.state.now.steps - c.args.state.now.steps) (omega arith) is c.requires.room)
+    frame_visits c.args.self.now.table.now c.args.self.now.fine (message c.args.self.now) c.args.depth c.args.entry c.args.place (at_of c.args.state.now) c.requires.entry c.requires.state c.requires.depth is c.requires.room
+    c.entry-e.result c.entry-e.ensures.value c.args.in_envelope c.struct_frame.result c.struct_frame.ensures _ (omega arith)
 
 pub returns-in-Struct-clause-fine : goal.returns-in-Struct-clause-fine
 returns-in-Struct-clause-fine c =
     let is : kind_of (entry_at c.args.self.now.table.now c.args.entry).kind ≡ Some Struct = ap (λ (e : Entry). kind_of e.kind) (sym c.entry-e.ensures.value) ∙ sym c.from_number.ensures ∙ c.in-Some.is ∙ ap (λ (k : EntryKind). Some k) c.in-Struct.is in
-    subst (λ (d : Entry). VisitFine c.args.self.now.table.now (message c.args.self.now) c.args.depth c.args.in_envelope c.args.entry (Some (struct_frame d c.args.place c.args.depth c.args.in_envelope))) (sym c.entry-e.ensures.value)
-    (struct_fine c.args.self.now.table.now c.args.self.now.fine (message c.args.self.now) c.args.depth c.args.entry c.args.place (at_of c.args.state.now) c.requires.entry c.requires.state c.requires.depth c.args.in_envelope is c.requires.room c.requires.in_envelope)
+    frame_fine c.args.self.now.table.now c.args.self.now.fine (message c.args.self.now) c.args.depth c.args.entry c.args.place (at_of c.args.state.now) c.requires.entry c.requires.state c.requires.depth is c.requires.room
+    c.entry-e.result c.entry-e.ensures.value c.args.in_envelope c.struct_frame.result c.struct_frame.ensures c.requires.in_envelope
 
 pub entry-size-requires : goal.entry-size-requires
 entry-size-requires c =
@@ -128,14 +125,11 @@ entry-e-requires c = c.requires.entry
 pub from_number-requires : goal.from_number-requires
 from_number-requires c = omega arith
 
-pub overflow_cast-result : goal.overflow_cast-result
-overflow_cast-result c = record { fits = omega arith }
-
 pub overflow_cast-size : goal.overflow_cast-size
 overflow_cast-size c = record { fits = omega arith }
 
-pub overflow_cast-result-in-Array : goal.overflow_cast-result-in-Array
-overflow_cast-result-in-Array c = record { fits = omega arith }
+pub overflow_cast-result : goal.overflow_cast-result
+overflow_cast-result c = record { fits = omega arith }
 
 pub read_box-requires-clause-entry : goal.read_box-requires-clause-entry
 read_box-requires-clause-entry c = c.requires.entry
