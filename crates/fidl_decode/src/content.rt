@@ -8,11 +8,12 @@ ghost use Rattle.fidl_decode_model.specs.declared.frame.Remaining.TheVariants as
 ghost use Rattle.fidl_decode_model.specs.Steps.{Spends};
 ghost use Rattle.fidl_decode_model.specs.Machine.{StateFine, FrameFine, Turns, BreaksFrame};
 ghost use Rattle.fidl_decode_model.specs.Machine.{turn_work, at_of};
+ghost use Rattle.fidl_decode.specs.Over.{IsStructOrContent};
 ghost use Rattle.fidl_decode.specs.Pending.{Leaves};
 ghost use Rattle.fidl_decode.specs.Reading.{table, came, message, Holds, CanReadFrame};
 
 use crate::frames::Frames;
-use crate::pending::Pending;
+use crate::pending::{Pending, is_struct_or_content};
 use fidl_decode_model::DecodeFault;
 use fidl_decode_model::frame::{Frame, Remaining, State, Turn, Until};
 use fidl_table_format::EntryKind;
@@ -175,6 +176,39 @@ impl<'t, 'm, 's> Frames<'t, 'm, 's> {
         Ok(None)
     }
 
+    /// Reads the next row of a struct or the content of an envelope, or the end of these.
+    #[inline(always)]
+    pub(crate) fn take_next(
+        &self,
+        frame: Frame,
+        state: &mut State<'_, '_>,
+    ) -> Result<Turn, DecodeFault>
+        requires left { IsStructOrContent frame.left }
+        requires frame { FrameFine (table self.now) (came self.now) frame }
+        requires holds { Holds self.now state.old }
+        requires state { StateFine (message self.now) (at_of state.old) }
+        requires ready { CanReadFrame self.now state.old frame }
+        requires budget { state.old.steps + turn_work (came self.now) state.old.next frame < 2 ^ 40 }
+        ensures holds { Holds self.now state.new }
+        ensures ok { IfOk result (λ turn. Turns (table self.now) (message self.now) frame
+            (at_of state.old) (at_of state.new) (state.new.steps - state.old.steps) turn) }
+        ensures spends { Spends state.old.steps state.new.steps 1 (turn_work (came self.now)
+            state.old.next frame) }
+        ensures fault_is_true { IfErr result (BreaksFrame (table self.now) (message self.now)
+            frame (at_of state.old)) }
+    {
+        match frame.left {
+            Remaining::Rows { first, count } => self.take_row(frame, first, count, state),
+            Remaining::Content {
+                entry,
+                size,
+                count,
+                until,
+            } => self.take_content(frame, entry, size as usize, count, until, state),
+            _ => unreachable!(),
+        }
+    }
+
     /// Reads the next member of a frame, or its end; of a table all members that are read in place.
     #[inline(always)]
     pub(crate) fn take_member(
@@ -196,21 +230,18 @@ impl<'t, 'm, 's> Frames<'t, 'm, 's> {
         ensures fault_is_true { IfErr result (BreaksFrame (table self.now) (message self.now)
             frame (at_of state.old)) }
     {
-        let turn = match frame.left {
+        if is_struct_or_content(&frame) {
+            let turn = self.take_next(frame, state)?;
+            return Ok(Pending { under: None, turn });
+        }
+        match frame.left {
             Remaining::Envelopes { entry, read, count } => {
-                self.read_envelopes(frame, entry, read, count, state)?
+                self.read_envelopes(frame, entry, read, count, state)
             }
-            Remaining::Content {
-                entry,
-                size,
-                count,
-                until,
-            } => self.take_content(frame, entry, size as usize, count, until, state)?,
-            Remaining::Rows { first, count } => self.take_row(frame, first, count, state)?,
             Remaining::Elements { entry, size, count } => {
-                return self.take_elements(frame, entry, size as usize, count, state);
+                self.take_elements(frame, entry, size as usize, count, state)
             }
-        };
-        Ok(Pending { under: None, turn })
+            _ => unreachable!(),
+        }
     }
 }

@@ -17,6 +17,9 @@ use fidl_decode_model::frame::{Frame, Remaining, State};
 use fidl_decode_values::Plain;
 use fidl_table_format::EntryKind;
 
+/// The number of the kind of structs.
+const STRUCT: u8 = 16;
+
 impl<'t, 'm, 's> Frames<'t, 'm, 's> {
     /// Reads the last member of a struct, where nothing is left behind it: what it leads to takes
     /// the struct's place. Else the frame is left as it is.
@@ -243,6 +246,14 @@ impl<'t, 'm, 's> Frames<'t, 'm, 's> {
         }
     }
 
+    /// Whether values of an entry are neither leaves nor structs.
+    #[inline(always)]
+    fn leads_on(&self, entry: u32) -> bool
+        requires { entry < (header_of (table self.now)).entries }
+    {
+        self.decoder.leaf_kind(entry).is_none() && self.decoder.entry(entry).kind != STRUCT
+    }
+
     /// Reads leaves as `read_leaves` does. Where a member that is none comes first, nothing is called.
     #[inline(always)]
     pub(crate) fn read_next_leaves(
@@ -280,7 +291,7 @@ impl<'t, 'm, 's> Frames<'t, 'm, 's> {
                 count == 0 || self.decoder.leaf_kind(entry).is_none()
             }
             Remaining::Envelopes { .. } => true,
-            Remaining::Content { .. } => false,
+            Remaining::Content { entry, count, .. } => count != 1 || self.leads_on(entry),
         };
         if none {
             return Ok(Some(frame));

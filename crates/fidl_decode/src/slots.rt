@@ -15,10 +15,12 @@ ghost use Rattle.fidl_decode_model.specs.declared.frame.Remaining.TheVariants as
 ghost use Rattle.fidl_decode_model.specs.Machine.{StateFine, FrameFine, Turns, BreaksFrame, Opens};
 ghost use Rattle.fidl_decode_model.specs.Machine.{PaysEnvelope, member_term, behind_envelopes};
 ghost use Rattle.fidl_decode_model.specs.Machine.{byte_work, envelope_work, turn_work, at_of};
+ghost use Rattle.fidl_decode.specs.Pending.{Leaves};
 ghost use Rattle.fidl_decode.specs.Reading.{table, came, message, Holds, CanReadFrame};
 ghost use Rattle.fidl_decode.specs.Reading.{CanReadPlace};
 
 use crate::frames::Frames;
+use crate::pending::{Pending, is_done};
 use fidl_decode_model::DecodeFault;
 use fidl_decode_model::frame::{Frame, Remaining, State, Turn};
 use fidl_table_format::{Entry, EntryKind, Row};
@@ -235,8 +237,8 @@ impl<'t, 'm, 's> Frames<'t, 'm, 's> {
         self.read_member(member, place, frame.depth, state)
     }
 
-    /// Reads the envelopes of a table in place, with the members in and behind them that are leaves
-    /// or structs of leaves, up to one whose member holds more: that is to be read next.
+    /// Reads the envelopes of a table in place, with the members in and behind them and what these
+    /// lead to, up to one that leads to more than is read there.
     pub(crate) fn read_envelopes(
         &self,
         frame: Frame,
@@ -244,7 +246,7 @@ impl<'t, 'm, 's> Frames<'t, 'm, 's> {
         read: u32,
         count: u32,
         state: &mut State<'_, '_>,
-    ) -> Result<Turn, DecodeFault>
+    ) -> Result<Pending, DecodeFault>
         requires left { frame.left ≡ left.Envelopes entry read count }
         requires frame { FrameFine (table self.now) (came self.now) frame }
         requires holds { Holds self.now state.old }
@@ -252,8 +254,8 @@ impl<'t, 'm, 's> Frames<'t, 'm, 's> {
         requires ready { CanReadFrame self.now state.old frame }
         requires budget { state.old.steps + turn_work (came self.now) state.old.next frame < 2 ^ 40 }
         ensures holds { Holds self.now state.new }
-        ensures ok { IfOk result (λ turn. Turns (table self.now) (message self.now) frame
-            (at_of state.old) (at_of state.new) (state.new.steps - state.old.steps) turn) }
+        ensures ok { IfOk result (λ left. Leaves (table self.now) (message self.now) frame
+            (at_of state.old) (at_of state.new) (state.new.steps - state.old.steps) left) }
         ensures rises { OnOk result (state.old.steps < state.new.steps) }
         ensures cost { state.new.steps ≤ state.old.steps + turn_work (came self.now) state.old.next
             frame }
@@ -270,17 +272,25 @@ impl<'t, 'm, 's> Frames<'t, 'm, 's> {
             passed += 1;
             many -= 1;
             done += 8;
-            if let Some(inner) = below {
-                return Ok(Turn {
-                    below: Some(inner),
-                    rest: Some(envelopes_from(frame, entry, passed, many, done)),
-                });
+            let Some(inner) = below else {
+                continue;
+            };
+            let turn = self.read_rest(inner, state)?;
+            if is_done(&turn) {
+                continue;
             }
+            return Ok(Pending {
+                under: Some(envelopes_from(frame, entry, passed, many, done)),
+                turn,
+            });
         }
         state.steps += 1;
-        Ok(Turn {
-            below: None,
-            rest: None,
+        Ok(Pending {
+            under: None,
+            turn: Turn {
+                below: None,
+                rest: None,
+            },
         })
     }
 }

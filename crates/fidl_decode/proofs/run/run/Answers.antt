@@ -63,7 +63,8 @@ loop-next-smaller c =
     let less = left_less c.args.frames.now.decoder.table.now (message c.args.frames.now.decoder) c.loop-next.stack.items c.in-Some.frame (at_of c.loop-next.state) _ _ c.in_ok-left.left.under c.in_ok-left.left.turn c.in_ok-left.ensures.ok in
     let new = ap (λ (l : List Frame). work c.args.frames.now.decoder.bytes.value.came l c.take_turn.new.state.next) after in
     let old = ap (λ (l : List Frame). work c.args.frames.now.decoder.bytes.value.came l c.loop-next.state.next) popped in
-    let fewer : work c.args.frames.now.decoder.bytes.value.came (c.next_frame-next.new.stack.items ++ option_to_list c.next_frame-next.result) c.take_turn.new.state.next < work c.args.frames.now.decoder.bytes.value.came (c.loop-next.stack.items ++ option_to_list c.loop-next.next) c.loop-next.state.next = omega (arith, c.in_ok-left.ensures.rises) in
+    let fewer : work c.args.frames.now.decoder.bytes.value.came (c.next_frame-next.new.stack.items ++ option_to_list c.next_frame-next.result)
+    c.take_turn.new.state.next < work c.args.frames.now.decoder.bytes.value.came (c.loop-next.stack.items ++ option_to_list c.loop-next.next) c.loop-next.state.next = omega (arith, c.in_ok-left.ensures.rises) in
     fewer
 
 pub loop-next-init : goal.loop-next-init
@@ -170,4 +171,5 @@ take_turn-requires-clause-budget c =
 pub returns-clause-least : goal.returns-clause-least
 returns-clause-least c =
     finishes_raised c.args.frames.now.decoder.table.now (message c.args.frames.now.decoder) (option_to_list c.args.top) (at_of c.args.state.now) (at_of c.loop-next.state) _ _ (omega arith)
-    (c.loop-next.invariant.least (at_of c.loop-next.state) 0 (worth_all c.args.frames.now.decoder.table.now (message c.args.frames.now.decoder) (c.loop-next.stack.items ++ option_to_list c.loop-next.next) (at_of c.loop-next.state) 0 (none_left c.loop-next.stack.items c.loop-next.next c.in_default.is c.loop-next.invariant.last)))
+    (c.loop-next.invariant.least (at_of c.loop-next.state) 0
+    (worth_all c.args.frames.now.decoder.table.now (message c.args.frames.now.decoder) (c.loop-next.stack.items ++ option_to_list c.loop-next.next) (at_of c.loop-next.state) 0 (none_left c.loop-next.stack.items c.loop-next.next c.in_default.is c.loop-next.invariant.last)))

@@ -213,7 +213,8 @@ returns-in_default-left c =
     let passed = c.pass_known-content.ensures.grows in
     let on = at_of c.pass_known-content.new.state in
     let whole = c.pass_known-content.new.state.steps - c.args.state.now.steps in
-    let all_read = turns_then t m f old new (c.enter_box.new.state.steps - c.args.state.now.steps) c.in-Some-2.below run on (c.pass_known-content.new.state.steps - c.enter_box.new.state.steps) whole (left_over (Some content)) (omega (arith, begun, rises, passed)) c.pass_known-content.ensures.turns in
+    let all_read = turns_then t m f old new (c.enter_box.new.state.steps - c.args.state.now.steps) c.in-Some-2.below run on
+    (c.pass_known-content.new.state.steps - c.enter_box.new.state.steps) whole (left_over (Some content)) (omega (arith, begun, rises, passed)) c.pass_known-content.ensures.turns in
     let less_read = all_read.less in
     record { holds = c.pass_known-content.ensures.holds; ok = all_read; grows = omega (arith, begun, rises, passed); ended = tt; cost = omega (arith, begun, rises, passed, less_read); fault_is_true = tt }
 
@@ -249,7 +250,8 @@ loop-many-preserved c =
     let passed = c.pass_known-content.ensures.grows in
     let on = at_of c.pass_known-content.new.state in
     let whole = c.pass_known-content.new.state.steps - c.args.state.now.steps in
-    let all_read = turns_then t m f old new (c.enter_box.new.state.steps - c.args.state.now.steps) c.in-Some-2.below run on (c.pass_known-content.new.state.steps - c.enter_box.new.state.steps) whole (left_over (Some content)) (omega (arith, begun, rises, passed)) c.pass_known-content.ensures.turns in
+    let all_read = turns_then t m f old new (c.enter_box.new.state.steps - c.args.state.now.steps) c.in-Some-2.below run on
+    (c.pass_known-content.new.state.steps - c.enter_box.new.state.steps) whole (left_over (Some content)) (omega (arith, begun, rises, passed)) c.pass_known-content.ensures.turns in
     let rows = Rows c.in-Rows-left.front c.in-Rows-left.behind in
     record { holds = c.pass_known-content.ensures.holds; turns = subst (λ (x : Frame). Turns t m f old on whole (left_over (Some x))) (same_frame content rows c.in-Rows-left.is) all_read; steps = omega (arith, begun, rises, passed) }
 
