@@ -1,4 +1,4 @@
--- Frames of which nothing is left to read, those of which leaves are, and those that are read in place.
+-- Frames of which nothing is left to read, and frames of which leaves are.
 use Rattle.std.specs.Prelude.{◌≡◌, ℕ, List}
 use Rattle.fidl_decode_model.specs.Invariants.{AreLeaves}
 use Rattle.fidl_decode_model.specs.declared.frame.Frame.{Frame}
@@ -21,9 +21,3 @@ IsOver f = NoRows f.left × (f.done ≡ f.size)
 abbrev pub AreRowsOfLeaves : List ℕ → Remaining → Type 0
 AreRowsOfLeaves t (Rows first count) = AreLeaves t first count
 AreRowsOfLeaves t left = ⊥
-
--- there are rows of a struct, or the content of an envelope
-abbrev pub IsStructOrContent : Remaining → Type 0
-IsStructOrContent (Rows first count) = Unit {0}
-IsStructOrContent (Content entry size count until) = Unit {0}
-IsStructOrContent left = ⊥

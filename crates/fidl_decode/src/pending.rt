@@ -1,8 +1,7 @@
 //! What is left to read of a frame.
 ghost use Rattle.std.specs.Prelude.{◌≡◌, None, ◌↔◌, IsTrue};
-ghost use Rattle.fidl_decode.specs.Over.{IsStructOrContent};
 
-use fidl_decode_model::frame::{Frame, Remaining, Turn};
+use fidl_decode_model::frame::{Frame, Turn};
 
 /// What reading a frame leaves: the frames that a turn leaves, and one, if any, that is read behind
 /// these.
@@ -18,15 +17,4 @@ pub(crate) fn is_done(turn: &Turn) -> bool
     ensures { IsTrue result ↔ turn.now ≡ record { below = None; rest = None } }
 {
     turn.below.is_none() && turn.rest.is_none()
-}
-
-/// Whether rows of a struct, or the content of an envelope, are left of a frame.
-#[inline(always)]
-pub(crate) fn is_struct_or_content(frame: &Frame) -> bool
-    ensures { IsTrue result ↔ IsStructOrContent frame.now.left }
-{
-    matches!(
-        frame.left,
-        Remaining::Rows { .. } | Remaining::Content { .. }
-    )
 }

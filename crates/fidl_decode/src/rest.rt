@@ -1,18 +1,17 @@
-//! The rest of a struct, behind its first members, and the content of an envelope.
+//! The rest of a struct, behind its first members.
 ghost use Rattle.std.specs.Prelude.{◌≡◌, ◌+◌, ◌-◌, ◌^◌, ◌<◌, ◌≤◌, OnOk, IfOk, IfErr};
 ghost use Rattle.fidl_decode_model.specs.Machine.{StateFine, FrameFine, BreaksFrame, Turns};
 ghost use Rattle.fidl_decode_model.specs.Machine.{turn_work, at_of};
 ghost use Rattle.fidl_decode.specs.Reading.{table, came, message, Holds, CanReadFrame};
 
 use crate::frames::Frames;
-use crate::pending::is_struct_or_content;
 use crate::turn::is_over;
 use fidl_decode_model::DecodeFault;
-use fidl_decode_model::frame::{Frame, State, Turn};
+use fidl_decode_model::frame::{Frame, Remaining, State, Turn};
 
 impl<'t, 'm, 's> Frames<'t, 'm, 's> {
-    /// Reads what is left of a struct, or of an envelope's content, in place, and what that leads to
-    /// where it is leaves alone, up to a member that leads to more.
+    /// Reads the rows that are left of a struct in place, and what they lead to where that is leaves
+    /// alone, up to a row that leads to more.
     #[inline(never)]
     pub(crate) fn read_rest(
         &self,
@@ -41,13 +40,13 @@ impl<'t, 'm, 's> Frames<'t, 'm, 's> {
                     rest: None,
                 });
             };
-            if !is_struct_or_content(&now) {
+            let Remaining::Rows { first, count } = now.left else {
                 return Ok(Turn {
                     below: None,
                     rest: Some(now),
                 });
-            }
-            let turn = self.take_next(now, state)?;
+            };
+            let turn = self.take_row(now, first, count, state)?;
             let Some(after) = turn.rest else {
                 return Ok(turn);
             };

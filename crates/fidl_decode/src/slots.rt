@@ -275,7 +275,7 @@ impl<'t, 'm, 's> Frames<'t, 'm, 's> {
             let Some(inner) = below else {
                 continue;
             };
-            let turn = self.read_rest(inner, state)?;
+            let turn = self.read_inner(inner, state)?;
             if is_done(&turn) {
                 continue;
             }

@@ -1,13 +1,10 @@
-//! Worked facts: which frames are over, whose members are leaves, and which are read on in place,
-//! computed by the definitions.
+//! Worked facts: which frames are over, and whose members are leaves, computed by the definitions.
 ghost use Rattle.std.specs.Prelude.{[]};
 ghost use Rattle.fidl_table_format.specs.Samples.{struct_and_box, table_and_union};
 ghost use Rattle.fidl_decode_model.specs.declared.frame.Remaining.TheVariants.{Rows, Elements};
-ghost use Rattle.fidl_decode_model.specs.declared.frame.Remaining.TheVariants.{Envelopes, Content};
-ghost use Rattle.fidl_decode_model.specs.declared.frame.Until.{Until};
+ghost use Rattle.fidl_decode_model.specs.declared.frame.Remaining.TheVariants.{Envelopes};
 ghost use Rattle.fidl_decode_values.specs.Body.{envelopes_of};
 ghost use Rattle.fidl_decode.specs.Over.{NoRows, IsOver, AreRowsOfLeaves};
-ghost use Rattle.fidl_decode.specs.Over.{IsStructOrContent};
 
 /// Rows and elements can be over, and envelopes cannot. A frame is over where its last byte is
 /// read.
@@ -27,13 +24,4 @@ pub fn rows_of_leaves()
     ensures holder { ¬ (AreRowsOfLeaves (struct_and_box 0 0) (Rows 0 1)) }
     ensures elements { ¬ (AreRowsOfLeaves [] (Elements 0 8 0)) }
     ensures envelopes { ¬ (AreRowsOfLeaves [] (Envelopes 0 0 0)) }
-{}
-
-/// Rows and the content of an envelope are read on in place. Elements and envelopes have loops of
-/// their own.
-pub fn structs_and_contents()
-    ensures rows { IsStructOrContent (Rows 0 0) }
-    ensures content { (until : Until) → IsStructOrContent (Content 0 8 1 until) }
-    ensures elements { ¬ (IsStructOrContent (Elements 0 8 0)) }
-    ensures envelopes { ¬ (IsStructOrContent (Envelopes 0 0 0)) }
 {}

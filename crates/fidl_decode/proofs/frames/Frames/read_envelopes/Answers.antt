@@ -152,8 +152,8 @@ loop-many-preserved-in_default c =
       steps = omega (arith, begun, rises);
     }
 
-pub read_rest-requires-clause-frame : goal.read_rest-requires-clause-frame
-read_rest-requires-clause-frame c =
+pub read_inner-requires-clause-frame : goal.read_inner-requires-clause-frame
+read_inner-requires-clause-frame c =
     let t = c.args.self.now.decoder.table.now in
     let m = message c.args.self.now.decoder in
     let f = c.args.frame in
@@ -172,8 +172,8 @@ read_rest-requires-clause-frame c =
     let held = subst (λ (o : Option Frame). Turns t m f old new all (record { below = o; rest = Some (then) })) c.in-Some.is run in
     held.below_fine.0
 
-pub read_rest-requires-clause-state : goal.read_rest-requires-clause-state
-read_rest-requires-clause-state c =
+pub read_inner-requires-clause-state : goal.read_inner-requires-clause-state
+read_inner-requires-clause-state c =
     let t = c.args.self.now.decoder.table.now in
     let m = message c.args.self.now.decoder in
     let f = c.args.frame in
@@ -192,8 +192,8 @@ read_rest-requires-clause-state c =
     let held = subst (λ (o : Option Frame). Turns t m f old new all (record { below = o; rest = Some (then) })) c.in-Some.is run in
     held.state
 
-pub read_rest-requires-clause-ready : goal.read_rest-requires-clause-ready
-read_rest-requires-clause-ready c =
+pub read_inner-requires-clause-ready : goal.read_inner-requires-clause-ready
+read_inner-requires-clause-ready c =
     let t = c.args.self.now.decoder.table.now in
     let m = message c.args.self.now.decoder in
     let f = c.args.frame in
@@ -213,8 +213,8 @@ read_rest-requires-clause-ready c =
     let p = held.moves c.requires.ready.0 c.requires.ready.1 in
     (p.ahead, p.below_clear)
 
-pub read_rest-requires-clause-budget : goal.read_rest-requires-clause-budget
-read_rest-requires-clause-budget c =
+pub read_inner-requires-clause-budget : goal.read_inner-requires-clause-budget
+read_inner-requires-clause-budget c =
     let t = c.args.self.now.decoder.table.now in
     let m = message c.args.self.now.decoder in
     let f = c.args.frame in
@@ -296,10 +296,10 @@ loop-many-preserved c =
     let held = subst (λ (o : Option Frame). Turns t m f old new all (record { below = o; rest = Some (then) })) c.in-Some.is run in
     let more = c.in_ok-turn.ensures.grows in
     let nothing : c.in_ok-turn.turn ≡ left_over None = c.is_done.ensures.0 c.if-is_done.true in
-    let two = subst (λ (x : Turn). Turns t m c.in-Some.inner new (at_of c.read_rest.new.state) (c.read_rest.new.state.steps - c.take_envelope.new.state.steps) x) nothing c.in_ok-turn.ensures.ok in
+    let two = subst (λ (x : Turn). Turns t m c.in-Some.inner new (at_of c.read_inner.new.state) (c.read_inner.new.state.steps - c.take_envelope.new.state.steps) x) nothing c.in_ok-turn.ensures.ok in
     record {
-      holds = c.read_rest.ensures.holds;
-      turns = turns_over t m f old new all c.in-Some.inner then held (at_of c.read_rest.new.state) _ _ (omega (arith, begun, rises, more)) two;
+      holds = c.read_inner.ensures.holds;
+      turns = turns_over t m f old new all c.in-Some.inner then held (at_of c.read_inner.new.state) _ _ (omega (arith, begun, rises, more)) two;
       steps = omega (arith, begun, rises, more);
     }
 
@@ -326,7 +326,7 @@ returns-in-loop-many-clause-ok c =
       above = c.in-Some.inner;
       mid = new;
       before = all;
-      behind = c.read_rest.new.state.steps - c.take_envelope.new.state.steps;
+      behind = c.read_inner.new.state.steps - c.take_envelope.new.state.steps;
       all = omega (arith, begun, rises, more);
       up_to = subst (λ (x : Frame). Turns t m f old new all (record { below = Some c.in-Some.inner; rest = Some x })) (sym c.envelopes_from.ensures) held;
       turns = c.in_ok-turn.ensures.ok;

@@ -67,24 +67,24 @@ returns-in_default-clause-cost c =
     let less = c.loop-now.invariant.turns.less in
     omega (arith, less, so_far, c.in_ok-now.ensures.cost)
 
-pub take_next-requires-clause-frame : goal.take_next-requires-clause-frame
-take_next-requires-clause-frame c =
+pub take_row-requires-clause-frame : goal.take_row-requires-clause-frame
+take_row-requires-clause-frame c =
     let so_far = c.loop-now.invariant.steps in
     let grows = c.in_ok-now.ensures.grows in
     let held = leaves_on c.args.self.now.decoder.table.now (message c.args.self.now.decoder) c.args.frame c.loop-now.rest c.in-Some.now (at_of c.args.state.now) (at_of c.loop-now.state) (at_of c.read_next_leaves.new.state)
     c.args.state.now.steps c.loop-now.state.steps c.read_next_leaves.new.state.steps c.loop-now.invariant.turns so_far grows _ c.in-Some.is c.in_ok-now.ensures.ok in
     held.rest_fine.0
 
-pub take_next-requires-clause-state : goal.take_next-requires-clause-state
-take_next-requires-clause-state c =
+pub take_row-requires-clause-state : goal.take_row-requires-clause-state
+take_row-requires-clause-state c =
     let so_far = c.loop-now.invariant.steps in
     let grows = c.in_ok-now.ensures.grows in
     let held = leaves_on c.args.self.now.decoder.table.now (message c.args.self.now.decoder) c.args.frame c.loop-now.rest c.in-Some.now (at_of c.args.state.now) (at_of c.loop-now.state) (at_of c.read_next_leaves.new.state)
     c.args.state.now.steps c.loop-now.state.steps c.read_next_leaves.new.state.steps c.loop-now.invariant.turns so_far grows _ c.in-Some.is c.in_ok-now.ensures.ok in
     held.state
 
-pub take_next-requires-clause-budget : goal.take_next-requires-clause-budget
-take_next-requires-clause-budget c =
+pub take_row-requires-clause-budget : goal.take_row-requires-clause-budget
+take_row-requires-clause-budget c =
     let so_far = c.loop-now.invariant.steps in
     let grows = c.in_ok-now.ensures.grows in
     let held = leaves_on c.args.self.now.decoder.table.now (message c.args.self.now.decoder) c.args.frame c.loop-now.rest c.in-Some.now (at_of c.args.state.now) (at_of c.loop-now.state) (at_of c.read_next_leaves.new.state)
@@ -108,8 +108,8 @@ returns-in_default-rest-clause-ok c =
     let held = leaves_on c.args.self.now.decoder.table.now (message c.args.self.now.decoder) c.args.frame c.loop-now.rest c.in-Some.now (at_of c.args.state.now) (at_of c.loop-now.state) (at_of c.read_next_leaves.new.state)
     c.args.state.now.steps c.loop-now.state.steps c.read_next_leaves.new.state.steps c.loop-now.invariant.turns so_far grows _ c.in-Some.is c.in_ok-now.ensures.ok in
     let rises = c.in_ok-turn.ensures.spends.least in
-    let read = turn_on c.args.self.now.decoder.table.now (message c.args.self.now.decoder) c.args.frame c.in-Some.now (at_of c.args.state.now) (at_of c.read_next_leaves.new.state) (at_of c.take_next.new.state)
-    c.args.state.now.steps c.read_next_leaves.new.state.steps c.take_next.new.state.steps c.in_ok-turn.turn held (omega (arith, so_far, grows)) (omega (arith, rises)) c.in_ok-turn.ensures.ok in
+    let read = turn_on c.args.self.now.decoder.table.now (message c.args.self.now.decoder) c.args.frame c.in-Some.now (at_of c.args.state.now) (at_of c.read_next_leaves.new.state) (at_of c.take_row.new.state)
+    c.args.state.now.steps c.read_next_leaves.new.state.steps c.take_row.new.state.steps c.in_ok-turn.turn held (omega (arith, so_far, grows)) (omega (arith, rises)) c.in_ok-turn.ensures.ok in
     read
 
 pub returns-in_default-rest-clause-grows : goal.returns-in_default-rest-clause-grows
@@ -133,10 +133,10 @@ read_next_leaves-requires-in-loop-now-clause-frame c =
     let held = leaves_on c.args.self.now.decoder.table.now (message c.args.self.now.decoder) c.args.frame c.loop-now.rest c.in-Some.now (at_of c.args.state.now) (at_of c.loop-now.state) (at_of c.read_next_leaves.new.state)
     c.args.state.now.steps c.loop-now.state.steps c.read_next_leaves.new.state.steps c.loop-now.invariant.turns so_far grows _ c.in-Some.is c.in_ok-now.ensures.ok in
     let rises = c.in_ok-turn.ensures.spends.least in
-    let read = turn_on c.args.self.now.decoder.table.now (message c.args.self.now.decoder) c.args.frame c.in-Some.now (at_of c.args.state.now) (at_of c.read_next_leaves.new.state) (at_of c.take_next.new.state)
-    c.args.state.now.steps c.read_next_leaves.new.state.steps c.take_next.new.state.steps c.in_ok-turn.turn held (omega (arith, so_far, grows)) (omega (arith, rises)) c.in_ok-turn.ensures.ok in
+    let read = turn_on c.args.self.now.decoder.table.now (message c.args.self.now.decoder) c.args.frame c.in-Some.now (at_of c.args.state.now) (at_of c.read_next_leaves.new.state) (at_of c.take_row.new.state)
+    c.args.state.now.steps c.read_next_leaves.new.state.steps c.take_row.new.state.steps c.in_ok-turn.turn held (omega (arith, so_far, grows)) (omega (arith, rises)) c.in_ok-turn.ensures.ok in
     let turn : c.in_ok-turn.turn ≡ record { below = Some c.in-Some-below-2.below; rest = Some c.in-Some-rest.after } = λ i. record { below = c.in-Some-below-2.is i; rest = c.in-Some-rest.is i } in
-    let both = subst (λ (x : Turn). Turns c.args.self.now.decoder.table.now (message c.args.self.now.decoder) c.args.frame (at_of c.args.state.now) (at_of c.take_next.new.state) (c.take_next.new.state.steps - c.args.state.now.steps) x) turn read in
+    let both = subst (λ (x : Turn). Turns c.args.self.now.decoder.table.now (message c.args.self.now.decoder) c.args.frame (at_of c.args.state.now) (at_of c.take_row.new.state) (c.take_row.new.state.steps - c.args.state.now.steps) x) turn read in
     both.below_fine.0
 
 pub read_next_leaves-requires-in-loop-now-clause-state : goal.read_next_leaves-requires-in-loop-now-clause-state
@@ -146,10 +146,10 @@ read_next_leaves-requires-in-loop-now-clause-state c =
     let held = leaves_on c.args.self.now.decoder.table.now (message c.args.self.now.decoder) c.args.frame c.loop-now.rest c.in-Some.now (at_of c.args.state.now) (at_of c.loop-now.state) (at_of c.read_next_leaves.new.state)
     c.args.state.now.steps c.loop-now.state.steps c.read_next_leaves.new.state.steps c.loop-now.invariant.turns so_far grows _ c.in-Some.is c.in_ok-now.ensures.ok in
     let rises = c.in_ok-turn.ensures.spends.least in
-    let read = turn_on c.args.self.now.decoder.table.now (message c.args.self.now.decoder) c.args.frame c.in-Some.now (at_of c.args.state.now) (at_of c.read_next_leaves.new.state) (at_of c.take_next.new.state)
-    c.args.state.now.steps c.read_next_leaves.new.state.steps c.take_next.new.state.steps c.in_ok-turn.turn held (omega (arith, so_far, grows)) (omega (arith, rises)) c.in_ok-turn.ensures.ok in
+    let read = turn_on c.args.self.now.decoder.table.now (message c.args.self.now.decoder) c.args.frame c.in-Some.now (at_of c.args.state.now) (at_of c.read_next_leaves.new.state) (at_of c.take_row.new.state)
+    c.args.state.now.steps c.read_next_leaves.new.state.steps c.take_row.new.state.steps c.in_ok-turn.turn held (omega (arith, so_far, grows)) (omega (arith, rises)) c.in_ok-turn.ensures.ok in
     let turn : c.in_ok-turn.turn ≡ record { below = Some c.in-Some-below-2.below; rest = Some c.in-Some-rest.after } = λ i. record { below = c.in-Some-below-2.is i; rest = c.in-Some-rest.is i } in
-    let both = subst (λ (x : Turn). Turns c.args.self.now.decoder.table.now (message c.args.self.now.decoder) c.args.frame (at_of c.args.state.now) (at_of c.take_next.new.state) (c.take_next.new.state.steps - c.args.state.now.steps) x) turn read in
+    let both = subst (λ (x : Turn). Turns c.args.self.now.decoder.table.now (message c.args.self.now.decoder) c.args.frame (at_of c.args.state.now) (at_of c.take_row.new.state) (c.take_row.new.state.steps - c.args.state.now.steps) x) turn read in
     both.state
 
 pub read_next_leaves-requires-in-loop-now-clause-budget : goal.read_next_leaves-requires-in-loop-now-clause-budget
@@ -159,10 +159,10 @@ read_next_leaves-requires-in-loop-now-clause-budget c =
     let held = leaves_on c.args.self.now.decoder.table.now (message c.args.self.now.decoder) c.args.frame c.loop-now.rest c.in-Some.now (at_of c.args.state.now) (at_of c.loop-now.state) (at_of c.read_next_leaves.new.state)
     c.args.state.now.steps c.loop-now.state.steps c.read_next_leaves.new.state.steps c.loop-now.invariant.turns so_far grows _ c.in-Some.is c.in_ok-now.ensures.ok in
     let rises = c.in_ok-turn.ensures.spends.least in
-    let read = turn_on c.args.self.now.decoder.table.now (message c.args.self.now.decoder) c.args.frame c.in-Some.now (at_of c.args.state.now) (at_of c.read_next_leaves.new.state) (at_of c.take_next.new.state)
-    c.args.state.now.steps c.read_next_leaves.new.state.steps c.take_next.new.state.steps c.in_ok-turn.turn held (omega (arith, so_far, grows)) (omega (arith, rises)) c.in_ok-turn.ensures.ok in
+    let read = turn_on c.args.self.now.decoder.table.now (message c.args.self.now.decoder) c.args.frame c.in-Some.now (at_of c.args.state.now) (at_of c.read_next_leaves.new.state) (at_of c.take_row.new.state)
+    c.args.state.now.steps c.read_next_leaves.new.state.steps c.take_row.new.state.steps c.in_ok-turn.turn held (omega (arith, so_far, grows)) (omega (arith, rises)) c.in_ok-turn.ensures.ok in
     let turn : c.in_ok-turn.turn ≡ record { below = Some c.in-Some-below-2.below; rest = Some c.in-Some-rest.after } = λ i. record { below = c.in-Some-below-2.is i; rest = c.in-Some-rest.is i } in
-    let both = subst (λ (x : Turn). Turns c.args.self.now.decoder.table.now (message c.args.self.now.decoder) c.args.frame (at_of c.args.state.now) (at_of c.take_next.new.state) (c.take_next.new.state.steps - c.args.state.now.steps) x) turn read in
+    let both = subst (λ (x : Turn). Turns c.args.self.now.decoder.table.now (message c.args.self.now.decoder) c.args.frame (at_of c.args.state.now) (at_of c.take_row.new.state) (c.take_row.new.state.steps - c.args.state.now.steps) x) turn read in
     let less_both = both.less in
     omega (arith, less_both, so_far, grows, rises, c.requires.budget)
 
@@ -173,10 +173,10 @@ returns-in_err-inner-clause-cost c =
     let held = leaves_on c.args.self.now.decoder.table.now (message c.args.self.now.decoder) c.args.frame c.loop-now.rest c.in-Some.now (at_of c.args.state.now) (at_of c.loop-now.state) (at_of c.read_next_leaves.new.state)
     c.args.state.now.steps c.loop-now.state.steps c.read_next_leaves.new.state.steps c.loop-now.invariant.turns so_far grows _ c.in-Some.is c.in_ok-now.ensures.ok in
     let rises = c.in_ok-turn.ensures.spends.least in
-    let read = turn_on c.args.self.now.decoder.table.now (message c.args.self.now.decoder) c.args.frame c.in-Some.now (at_of c.args.state.now) (at_of c.read_next_leaves.new.state) (at_of c.take_next.new.state)
-    c.args.state.now.steps c.read_next_leaves.new.state.steps c.take_next.new.state.steps c.in_ok-turn.turn held (omega (arith, so_far, grows)) (omega (arith, rises)) c.in_ok-turn.ensures.ok in
+    let read = turn_on c.args.self.now.decoder.table.now (message c.args.self.now.decoder) c.args.frame c.in-Some.now (at_of c.args.state.now) (at_of c.read_next_leaves.new.state) (at_of c.take_row.new.state)
+    c.args.state.now.steps c.read_next_leaves.new.state.steps c.take_row.new.state.steps c.in_ok-turn.turn held (omega (arith, so_far, grows)) (omega (arith, rises)) c.in_ok-turn.ensures.ok in
     let turn : c.in_ok-turn.turn ≡ record { below = Some c.in-Some-below-2.below; rest = Some c.in-Some-rest.after } = λ i. record { below = c.in-Some-below-2.is i; rest = c.in-Some-rest.is i } in
-    let both = subst (λ (x : Turn). Turns c.args.self.now.decoder.table.now (message c.args.self.now.decoder) c.args.frame (at_of c.args.state.now) (at_of c.take_next.new.state) (c.take_next.new.state.steps - c.args.state.now.steps) x) turn read in
+    let both = subst (λ (x : Turn). Turns c.args.self.now.decoder.table.now (message c.args.self.now.decoder) c.args.frame (at_of c.args.state.now) (at_of c.take_row.new.state) (c.take_row.new.state.steps - c.args.state.now.steps) x) turn read in
     let less_both = both.less in
     omega (arith, less_both, so_far, grows, rises, c.in_err-inner.ensures.cost)
 
@@ -187,16 +187,16 @@ returns-in-loop-now-clause-ok c =
     let held = leaves_on c.args.self.now.decoder.table.now (message c.args.self.now.decoder) c.args.frame c.loop-now.rest c.in-Some.now (at_of c.args.state.now) (at_of c.loop-now.state) (at_of c.read_next_leaves.new.state)
     c.args.state.now.steps c.loop-now.state.steps c.read_next_leaves.new.state.steps c.loop-now.invariant.turns so_far grows _ c.in-Some.is c.in_ok-now.ensures.ok in
     let rises = c.in_ok-turn.ensures.spends.least in
-    let read = turn_on c.args.self.now.decoder.table.now (message c.args.self.now.decoder) c.args.frame c.in-Some.now (at_of c.args.state.now) (at_of c.read_next_leaves.new.state) (at_of c.take_next.new.state)
-    c.args.state.now.steps c.read_next_leaves.new.state.steps c.take_next.new.state.steps c.in_ok-turn.turn held (omega (arith, so_far, grows)) (omega (arith, rises)) c.in_ok-turn.ensures.ok in
+    let read = turn_on c.args.self.now.decoder.table.now (message c.args.self.now.decoder) c.args.frame c.in-Some.now (at_of c.args.state.now) (at_of c.read_next_leaves.new.state) (at_of c.take_row.new.state)
+    c.args.state.now.steps c.read_next_leaves.new.state.steps c.take_row.new.state.steps c.in_ok-turn.turn held (omega (arith, so_far, grows)) (omega (arith, rises)) c.in_ok-turn.ensures.ok in
     let turn : c.in_ok-turn.turn ≡ record { below = Some c.in-Some-below-2.below; rest = Some c.in-Some-rest.after } = λ i. record { below = c.in-Some-below-2.is i; rest = c.in-Some-rest.is i } in
-    let both = subst (λ (x : Turn). Turns c.args.self.now.decoder.table.now (message c.args.self.now.decoder) c.args.frame (at_of c.args.state.now) (at_of c.take_next.new.state) (c.take_next.new.state.steps - c.args.state.now.steps) x) turn read in
+    let both = subst (λ (x : Turn). Turns c.args.self.now.decoder.table.now (message c.args.self.now.decoder) c.args.frame (at_of c.args.state.now) (at_of c.take_row.new.state) (c.take_row.new.state.steps - c.args.state.now.steps) x) turn read in
     let on = c.in_ok-inner.ensures.grows in
     let three = subst (λ (o : Option Frame). Turns c.args.self.now.decoder.table.now (message c.args.self.now.decoder) c.in-Some-below-2.below
-    (at_of c.take_next.new.state) (at_of c.read_next_leaves-in-loop-now.new.state)
-    (c.read_next_leaves-in-loop-now.new.state.steps - c.take_next.new.state.steps) (left_over o)) c.in-Some-2.is c.in_ok-inner.ensures.ok in
-    turns_below c.args.self.now.decoder.table.now (message c.args.self.now.decoder) c.args.frame (at_of c.args.state.now) (at_of c.take_next.new.state)
-    (c.take_next.new.state.steps - c.args.state.now.steps) c.in-Some-below-2.below c.in-Some-rest.after both
+    (at_of c.take_row.new.state) (at_of c.read_next_leaves-in-loop-now.new.state)
+    (c.read_next_leaves-in-loop-now.new.state.steps - c.take_row.new.state.steps) (left_over o)) c.in-Some-2.is c.in_ok-inner.ensures.ok in
+    turns_below c.args.self.now.decoder.table.now (message c.args.self.now.decoder) c.args.frame (at_of c.args.state.now) (at_of c.take_row.new.state)
+    (c.take_row.new.state.steps - c.args.state.now.steps) c.in-Some-below-2.below c.in-Some-rest.after both
     (at_of c.read_next_leaves-in-loop-now.new.state) _ _ (Some c.in-Some-2.inner) (omega (arith, so_far, grows, rises, on)) three
 
 pub loop-now-preserved-in_default-below-2 : goal.loop-now-preserved-in_default-below-2
@@ -206,11 +206,11 @@ loop-now-preserved-in_default-below-2 c =
     let held = leaves_on c.args.self.now.decoder.table.now (message c.args.self.now.decoder) c.args.frame c.loop-now.rest c.in-Some.now (at_of c.args.state.now) (at_of c.loop-now.state) (at_of c.read_next_leaves.new.state)
     c.args.state.now.steps c.loop-now.state.steps c.read_next_leaves.new.state.steps c.loop-now.invariant.turns so_far grows _ c.in-Some.is c.in_ok-now.ensures.ok in
     let rises = c.in_ok-turn.ensures.spends.least in
-    let read = turn_on c.args.self.now.decoder.table.now (message c.args.self.now.decoder) c.args.frame c.in-Some.now (at_of c.args.state.now) (at_of c.read_next_leaves.new.state) (at_of c.take_next.new.state)
-    c.args.state.now.steps c.read_next_leaves.new.state.steps c.take_next.new.state.steps c.in_ok-turn.turn held (omega (arith, so_far, grows)) (omega (arith, rises)) c.in_ok-turn.ensures.ok in
+    let read = turn_on c.args.self.now.decoder.table.now (message c.args.self.now.decoder) c.args.frame c.in-Some.now (at_of c.args.state.now) (at_of c.read_next_leaves.new.state) (at_of c.take_row.new.state)
+    c.args.state.now.steps c.read_next_leaves.new.state.steps c.take_row.new.state.steps c.in_ok-turn.turn held (omega (arith, so_far, grows)) (omega (arith, rises)) c.in_ok-turn.ensures.ok in
     let turn : c.in_ok-turn.turn ≡ left_over (Some c.in-Some-rest.after) = λ i. record { below = c.in_default-below-2.is i; rest = c.in-Some-rest.is i } in
-    let alone = subst (λ (x : Turn). Turns c.args.self.now.decoder.table.now (message c.args.self.now.decoder) c.args.frame (at_of c.args.state.now) (at_of c.take_next.new.state) (c.take_next.new.state.steps - c.args.state.now.steps) x) turn read in
-    record { holds = c.take_next.ensures.holds; turns = alone; steps = omega (arith, so_far, grows, rises) }
+    let alone = subst (λ (x : Turn). Turns c.args.self.now.decoder.table.now (message c.args.self.now.decoder) c.args.frame (at_of c.args.state.now) (at_of c.take_row.new.state) (c.take_row.new.state.steps - c.args.state.now.steps) x) turn read in
+    record { holds = c.take_row.ensures.holds; turns = alone; steps = omega (arith, so_far, grows, rises) }
 
 pub loop-now-preserved-then-is_over : goal.loop-now-preserved-then-is_over
 loop-now-preserved-then-is_over c =
@@ -219,16 +219,16 @@ loop-now-preserved-then-is_over c =
     let held = leaves_on c.args.self.now.decoder.table.now (message c.args.self.now.decoder) c.args.frame c.loop-now.rest c.in-Some.now (at_of c.args.state.now) (at_of c.loop-now.state) (at_of c.read_next_leaves.new.state)
     c.args.state.now.steps c.loop-now.state.steps c.read_next_leaves.new.state.steps c.loop-now.invariant.turns so_far grows _ c.in-Some.is c.in_ok-now.ensures.ok in
     let rises = c.in_ok-turn.ensures.spends.least in
-    let read = turn_on c.args.self.now.decoder.table.now (message c.args.self.now.decoder) c.args.frame c.in-Some.now (at_of c.args.state.now) (at_of c.read_next_leaves.new.state) (at_of c.take_next.new.state)
-    c.args.state.now.steps c.read_next_leaves.new.state.steps c.take_next.new.state.steps c.in_ok-turn.turn held (omega (arith, so_far, grows)) (omega (arith, rises)) c.in_ok-turn.ensures.ok in
+    let read = turn_on c.args.self.now.decoder.table.now (message c.args.self.now.decoder) c.args.frame c.in-Some.now (at_of c.args.state.now) (at_of c.read_next_leaves.new.state) (at_of c.take_row.new.state)
+    c.args.state.now.steps c.read_next_leaves.new.state.steps c.take_row.new.state.steps c.in_ok-turn.turn held (omega (arith, so_far, grows)) (omega (arith, rises)) c.in_ok-turn.ensures.ok in
     let turn : c.in_ok-turn.turn ≡ record { below = Some c.in-Some-below.below; rest = Some c.in-Some-rest.after } = λ i. record { below = c.in-Some-below.is i; rest = c.in-Some-rest.is i } in
-    let both = subst (λ (x : Turn). Turns c.args.self.now.decoder.table.now (message c.args.self.now.decoder) c.args.frame (at_of c.args.state.now) (at_of c.take_next.new.state) (c.take_next.new.state.steps - c.args.state.now.steps) x) turn read in
+    let both = subst (λ (x : Turn). Turns c.args.self.now.decoder.table.now (message c.args.self.now.decoder) c.args.frame (at_of c.args.state.now) (at_of c.take_row.new.state) (c.take_row.new.state.steps - c.args.state.now.steps) x) turn read in
     let over = c.is_over.ensures.0 c.if-is_over.true in
     record {
-      holds = c.take_next.ensures.holds;
+      holds = c.take_row.ensures.holds;
       turns = turns_tail c.args.self.now.decoder.table.now c.args.self.now.decoder.fine (message c.args.self.now.decoder)
-          c.args.frame c.in-Some-below.below c.in-Some-rest.after (at_of c.args.state.now) (at_of c.take_next.new.state)
-          (c.take_next.new.state.steps - c.args.state.now.steps) both over;
+          c.args.frame c.in-Some-below.below c.in-Some-rest.after (at_of c.args.state.now) (at_of c.take_row.new.state)
+          (c.take_row.new.state.steps - c.args.state.now.steps) both over;
       steps = omega (arith, so_far, grows, rises);
     }
 
@@ -239,18 +239,18 @@ loop-now-preserved c =
     let held = leaves_on c.args.self.now.decoder.table.now (message c.args.self.now.decoder) c.args.frame c.loop-now.rest c.in-Some.now (at_of c.args.state.now) (at_of c.loop-now.state) (at_of c.read_next_leaves.new.state)
     c.args.state.now.steps c.loop-now.state.steps c.read_next_leaves.new.state.steps c.loop-now.invariant.turns so_far grows _ c.in-Some.is c.in_ok-now.ensures.ok in
     let rises = c.in_ok-turn.ensures.spends.least in
-    let read = turn_on c.args.self.now.decoder.table.now (message c.args.self.now.decoder) c.args.frame c.in-Some.now (at_of c.args.state.now) (at_of c.read_next_leaves.new.state) (at_of c.take_next.new.state)
-    c.args.state.now.steps c.read_next_leaves.new.state.steps c.take_next.new.state.steps c.in_ok-turn.turn held (omega (arith, so_far, grows)) (omega (arith, rises)) c.in_ok-turn.ensures.ok in
+    let read = turn_on c.args.self.now.decoder.table.now (message c.args.self.now.decoder) c.args.frame c.in-Some.now (at_of c.args.state.now) (at_of c.read_next_leaves.new.state) (at_of c.take_row.new.state)
+    c.args.state.now.steps c.read_next_leaves.new.state.steps c.take_row.new.state.steps c.in_ok-turn.turn held (omega (arith, so_far, grows)) (omega (arith, rises)) c.in_ok-turn.ensures.ok in
     let turn : c.in_ok-turn.turn ≡ record { below = Some c.in-Some-below-2.below; rest = Some c.in-Some-rest.after } = λ i. record { below = c.in-Some-below-2.is i; rest = c.in-Some-rest.is i } in
-    let both = subst (λ (x : Turn). Turns c.args.self.now.decoder.table.now (message c.args.self.now.decoder) c.args.frame (at_of c.args.state.now) (at_of c.take_next.new.state) (c.take_next.new.state.steps - c.args.state.now.steps) x) turn read in
+    let both = subst (λ (x : Turn). Turns c.args.self.now.decoder.table.now (message c.args.self.now.decoder) c.args.frame (at_of c.args.state.now) (at_of c.take_row.new.state) (c.take_row.new.state.steps - c.args.state.now.steps) x) turn read in
     let on = c.in_ok-inner.ensures.grows in
     let three = subst (λ (o : Option Frame). Turns c.args.self.now.decoder.table.now (message c.args.self.now.decoder) c.in-Some-below-2.below
-    (at_of c.take_next.new.state) (at_of c.read_next_leaves-in-loop-now.new.state)
-    (c.read_next_leaves-in-loop-now.new.state.steps - c.take_next.new.state.steps) (left_over o)) c.in_default-2.is c.in_ok-inner.ensures.ok in
+    (at_of c.take_row.new.state) (at_of c.read_next_leaves-in-loop-now.new.state)
+    (c.read_next_leaves-in-loop-now.new.state.steps - c.take_row.new.state.steps) (left_over o)) c.in_default-2.is c.in_ok-inner.ensures.ok in
     record {
       holds = c.read_next_leaves-in-loop-now.ensures.holds;
       turns = turns_over c.args.self.now.decoder.table.now (message c.args.self.now.decoder) c.args.frame
-          (at_of c.args.state.now) (at_of c.take_next.new.state) (c.take_next.new.state.steps - c.args.state.now.steps) c.in-Some-below-2.below
+          (at_of c.args.state.now) (at_of c.take_row.new.state) (c.take_row.new.state.steps - c.args.state.now.steps) c.in-Some-below-2.below
           c.in-Some-rest.after both (at_of c.read_next_leaves-in-loop-now.new.state) _ _ (omega (arith, so_far, grows, rises, on)) three;
       steps = omega
           (arith, so_far, grows, rises, on);
@@ -277,12 +277,12 @@ returns-in_err-inner-clause-fault_is_true c =
     let held = leaves_on c.args.self.now.decoder.table.now (message c.args.self.now.decoder) c.args.frame c.loop-now.rest c.in-Some.now (at_of c.args.state.now) (at_of c.loop-now.state) (at_of c.read_next_leaves.new.state)
     c.args.state.now.steps c.loop-now.state.steps c.read_next_leaves.new.state.steps c.loop-now.invariant.turns so_far grows _ c.in-Some.is c.in_ok-now.ensures.ok in
     let rises = c.in_ok-turn.ensures.spends.least in
-    let read = turn_on c.args.self.now.decoder.table.now (message c.args.self.now.decoder) c.args.frame c.in-Some.now (at_of c.args.state.now) (at_of c.read_next_leaves.new.state) (at_of c.take_next.new.state)
-    c.args.state.now.steps c.read_next_leaves.new.state.steps c.take_next.new.state.steps c.in_ok-turn.turn held (omega (arith, so_far, grows)) (omega (arith, rises)) c.in_ok-turn.ensures.ok in
+    let read = turn_on c.args.self.now.decoder.table.now (message c.args.self.now.decoder) c.args.frame c.in-Some.now (at_of c.args.state.now) (at_of c.read_next_leaves.new.state) (at_of c.take_row.new.state)
+    c.args.state.now.steps c.read_next_leaves.new.state.steps c.take_row.new.state.steps c.in_ok-turn.turn held (omega (arith, so_far, grows)) (omega (arith, rises)) c.in_ok-turn.ensures.ok in
     let turn : c.in_ok-turn.turn ≡ record { below = Some c.in-Some-below-2.below; rest = Some c.in-Some-rest.after } = λ i. record { below = c.in-Some-below-2.is i; rest = c.in-Some-rest.is i } in
-    let both = subst (λ (x : Turn). Turns c.args.self.now.decoder.table.now (message c.args.self.now.decoder) c.args.frame (at_of c.args.state.now) (at_of c.take_next.new.state) (c.take_next.new.state.steps - c.args.state.now.steps) x) turn read in
+    let both = subst (λ (x : Turn). Turns c.args.self.now.decoder.table.now (message c.args.self.now.decoder) c.args.frame (at_of c.args.state.now) (at_of c.take_row.new.state) (c.take_row.new.state.steps - c.args.state.now.steps) x) turn read in
     passed_on c.from_residual-in_err-inner.result c.in_err-inner.field-0.0 _ c.from_residual-in_err-inner.ensures.1
-    (below_breaks c.args.self.now.decoder.table.now (message c.args.self.now.decoder) c.args.frame (at_of c.args.state.now) (at_of c.take_next.new.state) (c.take_next.new.state.steps - c.args.state.now.steps)
+    (below_breaks c.args.self.now.decoder.table.now (message c.args.self.now.decoder) c.args.frame (at_of c.args.state.now) (at_of c.take_row.new.state) (c.take_row.new.state.steps - c.args.state.now.steps)
     c.in-Some-below-2.below c.in-Some-rest.after both _ c.in_err-inner.ensures.fault_is_true)
 
 pub read_next_leaves-requires-in-loop-now-clause-ready : goal.read_next_leaves-requires-in-loop-now-clause-ready
@@ -292,10 +292,10 @@ read_next_leaves-requires-in-loop-now-clause-ready c =
     let held = leaves_on c.args.self.now.decoder.table.now (message c.args.self.now.decoder) c.args.frame c.loop-now.rest c.in-Some.now (at_of c.args.state.now) (at_of c.loop-now.state) (at_of c.read_next_leaves.new.state)
     c.args.state.now.steps c.loop-now.state.steps c.read_next_leaves.new.state.steps c.loop-now.invariant.turns so_far grows _ c.in-Some.is c.in_ok-now.ensures.ok in
     let rises = c.in_ok-turn.ensures.spends.least in
-    let read = turn_on c.args.self.now.decoder.table.now (message c.args.self.now.decoder) c.args.frame c.in-Some.now (at_of c.args.state.now) (at_of c.read_next_leaves.new.state) (at_of c.take_next.new.state)
-    c.args.state.now.steps c.read_next_leaves.new.state.steps c.take_next.new.state.steps c.in_ok-turn.turn held (omega (arith, so_far, grows)) (omega (arith, rises)) c.in_ok-turn.ensures.ok in
+    let read = turn_on c.args.self.now.decoder.table.now (message c.args.self.now.decoder) c.args.frame c.in-Some.now (at_of c.args.state.now) (at_of c.read_next_leaves.new.state) (at_of c.take_row.new.state)
+    c.args.state.now.steps c.read_next_leaves.new.state.steps c.take_row.new.state.steps c.in_ok-turn.turn held (omega (arith, so_far, grows)) (omega (arith, rises)) c.in_ok-turn.ensures.ok in
     let turn : c.in_ok-turn.turn ≡ record { below = Some c.in-Some-below-2.below; rest = Some c.in-Some-rest.after } = λ i. record { below = c.in-Some-below-2.is i; rest = c.in-Some-rest.is i } in
-    let both = subst (λ (x : Turn). Turns c.args.self.now.decoder.table.now (message c.args.self.now.decoder) c.args.frame (at_of c.args.state.now) (at_of c.take_next.new.state) (c.take_next.new.state.steps - c.args.state.now.steps) x) turn read in
+    let both = subst (λ (x : Turn). Turns c.args.self.now.decoder.table.now (message c.args.self.now.decoder) c.args.frame (at_of c.args.state.now) (at_of c.take_row.new.state) (c.take_row.new.state.steps - c.args.state.now.steps) x) turn read in
     let p = both.moves c.requires.ready.0 c.requires.ready.1 in
     (p.ahead, p.below_clear)
 
@@ -306,15 +306,15 @@ returns-in_default-below-clause-ok c =
     let held = leaves_on c.args.self.now.decoder.table.now (message c.args.self.now.decoder) c.args.frame c.loop-now.rest c.in-Some.now (at_of c.args.state.now) (at_of c.loop-now.state) (at_of c.read_next_leaves.new.state)
     c.args.state.now.steps c.loop-now.state.steps c.read_next_leaves.new.state.steps c.loop-now.invariant.turns so_far grows _ c.in-Some.is c.in_ok-now.ensures.ok in
     let rises = c.in_ok-turn.ensures.spends.least in
-    let read = turn_on c.args.self.now.decoder.table.now (message c.args.self.now.decoder) c.args.frame c.in-Some.now (at_of c.args.state.now) (at_of c.read_next_leaves.new.state) (at_of c.take_next.new.state)
-    c.args.state.now.steps c.read_next_leaves.new.state.steps c.take_next.new.state.steps c.in_ok-turn.turn held (omega (arith, so_far, grows)) (omega (arith, rises)) c.in_ok-turn.ensures.ok in
+    let read = turn_on c.args.self.now.decoder.table.now (message c.args.self.now.decoder) c.args.frame c.in-Some.now (at_of c.args.state.now) (at_of c.read_next_leaves.new.state) (at_of c.take_row.new.state)
+    c.args.state.now.steps c.read_next_leaves.new.state.steps c.take_row.new.state.steps c.in_ok-turn.turn held (omega (arith, so_far, grows)) (omega (arith, rises)) c.in_ok-turn.ensures.ok in
     let turn : c.in_ok-turn.turn ≡ left_over (Some c.in-Some-rest.after) = λ i. record { below = c.in_default-below.is i; rest = c.in-Some-rest.is i } in
-    let alone = subst (λ (x : Turn). Turns c.args.self.now.decoder.table.now (message c.args.self.now.decoder) c.args.frame (at_of c.args.state.now) (at_of c.take_next.new.state) (c.take_next.new.state.steps - c.args.state.now.steps) x) turn read in
-    turns_done c.args.self.now.decoder.table.now c.args.self.now.decoder.fine (message c.args.self.now.decoder) c.args.frame c.in-Some-rest.after (at_of c.args.state.now) (at_of c.take_next.new.state)
-    (c.take_next.new.state.steps - c.args.state.now.steps) alone (c.is_over.ensures.0 c.if-is_over.true)
+    let alone = subst (λ (x : Turn). Turns c.args.self.now.decoder.table.now (message c.args.self.now.decoder) c.args.frame (at_of c.args.state.now) (at_of c.take_row.new.state) (c.take_row.new.state.steps - c.args.state.now.steps) x) turn read in
+    turns_done c.args.self.now.decoder.table.now c.args.self.now.decoder.fine (message c.args.self.now.decoder) c.args.frame c.in-Some-rest.after (at_of c.args.state.now) (at_of c.take_row.new.state)
+    (c.take_row.new.state.steps - c.args.state.now.steps) alone (c.is_over.ensures.0 c.if-is_over.true)
 
-pub take_next-requires-clause-ready : goal.take_next-requires-clause-ready
-take_next-requires-clause-ready c =
+pub take_row-requires-clause-ready : goal.take_row-requires-clause-ready
+take_row-requires-clause-ready c =
     let so_far = c.loop-now.invariant.steps in
     let grows = c.in_ok-now.ensures.grows in
     let held = leaves_on c.args.self.now.decoder.table.now (message c.args.self.now.decoder) c.args.frame c.loop-now.rest c.in-Some.now (at_of c.args.state.now) (at_of c.loop-now.state) (at_of c.read_next_leaves.new.state)
@@ -322,8 +322,8 @@ take_next-requires-clause-ready c =
     let p = held.moves c.requires.ready.0 c.requires.ready.1 in
     (p.ahead, p.rest_clear)
 
-pub returns-then-not-is_struct_or_content : goal.returns-then-not-is_struct_or_content
-returns-then-not-is_struct_or_content c =
+pub returns-in_default-left : goal.returns-in_default-left
+returns-in_default-left c =
     let so_far = c.loop-now.invariant.steps in
     let grows = c.in_ok-now.ensures.grows in
     let held = leaves_on c.args.self.now.decoder.table.now (message c.args.self.now.decoder) c.args.frame c.loop-now.rest c.in-Some.now (at_of c.args.state.now) (at_of c.loop-now.state) (at_of c.read_next_leaves.new.state)
@@ -331,7 +331,3 @@ returns-then-not-is_struct_or_content c =
     let less = c.loop-now.invariant.turns.less in
     let cost = c.in_ok-now.ensures.cost in
     record { holds = c.in_ok-now.ensures.holds; ok = held; grows = omega (arith, so_far, grows); cost = omega (arith, less, so_far, cost); fault_is_true = tt }
-
-pub take_next-requires-clause-left : goal.take_next-requires-clause-left
-take_next-requires-clause-left c =
-    c.is_struct_or_content.ensures.0 c.if-not-is_struct_or_content.false

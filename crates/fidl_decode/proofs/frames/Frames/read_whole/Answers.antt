@@ -1,14 +1,16 @@
 use Rattle.fidl_decode_values.specs.Reading.{message}
 use Rattle.fidl_decode_values.proofs.Fitting.{not_fewer}
 use Rattle.fidl_decode_values.proofs.Unchanged.{no_ok}
-use Rattle.std.proofs.Common.{◌+◌, ◌-◌, refl, arith}
+use Rattle.std.proofs.Common.{◌≡◌, ◌+◌, ◌-◌, ◌∙◌, true, false, refl, sym, arith}
 use Rattle.fidl_decode_model.specs.Machine.{at_of}
 use Rattle.fidl_decode_model.specs.Envelopes.{IsUntil}
 use Rattle.fidl_decode_model.proofs.Turning.{passed_on}
 use Rattle.fidl_decode_values.proofs.LeafContent.{leaf_known, leaf_size, leaf_room, leaf_pays, leaf_breaks, end_room, end_less, leaf_over, leaf_miscounted, leaf_end_breaks, leaf_end_free}
 use Rattle.fidl_decode_values.proofs.ReadyBelow.{content_ready}
-use Rattle.fidl_decode.proofs.frames.Frames.read_whole.Goals.{then-state-until-via-then-state-until, then-state-until-via-else-state-until+then-state-until-2}
 use Rattle.fidl_decode.proofs.frames.Frames.read_whole.Goals as goal
+
+no_true : false ≡ true → ⊥
+no_true e = cc
 
 pub overflow_add-at : goal.overflow_add-at
 overflow_add-at c =
@@ -144,8 +146,8 @@ returns-in_err-zeros_at-clause-fault_is_true c =
     c.requires.frame c.requires.state (at_of c.read_flat.new.state) (c.read_flat.new.state.steps - (c.args.state.now.steps + 1))
     c.in_ok-read_flat.ensures.ok c.in_err-zeros_at.field-0.0 c.in_err-zeros_at.ensures.fault_is_true)
 
-pub returns-then-state-until-clause-cost : goal.returns-then-state-until-clause-cost
-returns-then-state-until-clause-cost c =
+pub returns-then-not-is_counted-clause-cost : goal.returns-then-not-is_counted-clause-cost
+returns-then-not-is_counted-clause-cost c =
     let t = c.args.self.now.decoder.table.now in
     let m = message c.args.self.now.decoder in
     let end = end_room t c.args.self.now.decoder.fine m c.args.frame c.args.entry c.args.size 1 c.args.until c.requires.left refl (at_of c.args.state.now)
@@ -157,14 +159,11 @@ returns-then-state-until-clause-cost c =
     let grows = (not_fewer _ _ _ c.in_ok-read_flat.ensures.spends) in
     omega (arith, less, end.1, end.0, grows)
 
-pub returns-then-state-until-clause-fault_is_true : goal.returns-then-state-until-clause-fault_is_true
-returns-then-state-until-clause-fault_is_true c =
+pub returns-then-not-is_counted-clause-fault_is_true : goal.returns-then-not-is_counted-clause-fault_is_true
+returns-then-not-is_counted-clause-fault_is_true c =
     let t = c.args.self.now.decoder.table.now in
     let m = message c.args.self.now.decoder in
-    let other : IsUntil c.args.until (at_of c.read_flat.new.state) → ⊥ = elim c.then-state-until.branch [
-      | then-state-until-via-then-state-until w ↦ (λ u. w.if-state-until.true u.0)
-      | then-state-until-via-else-state-until+then-state-until-2 w ↦ (λ u. w.if-state-until-2.true u.1)
-    ] in
+    let other : IsUntil c.args.until (at_of c.read_flat.new.state) → ⊥ = λ u. no_true (sym c.if-not-is_counted.true ∙ c.is_counted.ensures.1 u) in
     leaf_miscounted t c.args.self.now.decoder.fine m c.args.frame c.args.entry c.args.size 1 c.args.until c.requires.left refl (at_of c.args.state.now)
     c.requires.frame c.requires.state (at_of c.read_flat.new.state) (c.read_flat.new.state.steps - (c.args.state.now.steps + 1))
     c.in_ok-read_flat.ensures.ok c.in_ok-zeros_at.ensures.ok other
@@ -176,7 +175,7 @@ returns-clause-ok c =
     let grows = (not_fewer _ _ _ c.in_ok-read_flat.ensures.spends) in
     leaf_over t c.args.self.now.decoder.fine m c.args.frame c.args.entry c.args.size 1 c.args.until c.requires.left refl (at_of c.args.state.now)
     c.requires.frame c.requires.state (at_of c.read_flat.new.state) (c.read_flat.new.state.steps - (c.args.state.now.steps + 1))
-    c.in_ok-read_flat.ensures.ok c.in_ok-zeros_at.ensures.ok (c.if-state-until.false, c.if-state-until-2.false) _ (omega (arith, grows))
+    c.in_ok-read_flat.ensures.ok c.in_ok-zeros_at.ensures.ok (c.is_counted.ensures.0 c.if-not-is_counted.false) _ (omega (arith, grows))
 
 pub returns-clause-rises : goal.returns-clause-rises
 returns-clause-rises c =
@@ -217,11 +216,11 @@ returns-in_err-zeros_at-clause-ok c = no_ok c.from_residual-in_err-zeros_at.resu
 pub returns-in_err-zeros_at-clause-rises : goal.returns-in_err-zeros_at-clause-rises
 returns-in_err-zeros_at-clause-rises c = no_ok c.from_residual-in_err-zeros_at.result c.in_err-zeros_at.field-0.0 _ c.from_residual-in_err-zeros_at.ensures.1
 
-pub returns-then-state-until-clause-ok : goal.returns-then-state-until-clause-ok
-returns-then-state-until-clause-ok c = tt
+pub returns-then-not-is_counted-clause-ok : goal.returns-then-not-is_counted-clause-ok
+returns-then-not-is_counted-clause-ok c = tt
 
-pub returns-then-state-until-clause-rises : goal.returns-then-state-until-clause-rises
-returns-then-state-until-clause-rises c = tt
+pub returns-then-not-is_counted-clause-rises : goal.returns-then-not-is_counted-clause-rises
+returns-then-not-is_counted-clause-rises c = tt
 
 pub returns-clause-fault_is_true : goal.returns-clause-fault_is_true
 returns-clause-fault_is_true c = tt
