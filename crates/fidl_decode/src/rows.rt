@@ -1,6 +1,6 @@
 //! The rows of a struct, one after the other.
 ghost use Rattle.std.specs.Prelude.{◌≡◌, ◌+◌, ◌-◌, ◌^◌, ◌<◌, OnOk, IfOk, IfErr, Some, None, true};
-ghost use Rattle.std.specs.Prelude.{[]};
+ghost use Rattle.std.specs.Prelude.{◌≤◌, []};
 ghost use Rattle.fidl_table_format.specs.declared.kind.EntryKind.TheVariants as kinds;
 ghost use Rattle.fidl_table_format.specs.Kind.{kind_of};
 ghost use Rattle.fidl_table_format.specs.Section.{header_of, entry_at, row_at};
@@ -14,7 +14,7 @@ ghost use Rattle.fidl_decode.specs.Reading.{table, came, message, Holds, CanRead
 
 use crate::frames::Frames;
 use fidl_decode_model::DecodeFault;
-use fidl_decode_model::frame::{Frame, State, Turn};
+use fidl_decode_model::frame::{Frame, Remaining, State, Turn};
 use fidl_decode_values::rows_from;
 use fidl_table_format::EntryKind;
 
@@ -224,5 +224,86 @@ impl<'t, 'm, 's> Frames<'t, 'm, 's> {
             below,
             rest: Some(rows_from(frame, first + 1, count - 1, done)),
         })
+    }
+
+    /// Whether a leaf is the next of so many rows.
+    #[inline(always)]
+    fn leaf_is_next(&self, first: u32, count: u32) -> bool
+        requires { first + count ≤ (header_of (table self.now)).rows }
+    {
+        count != 0
+            && self
+                .decoder
+                .leaf_kind(self.decoder.row(first).entry)
+                .is_some()
+    }
+
+    /// Reads the next rows of a struct, and what they lead to where that is leaves alone: up to a leaf,
+    /// up to a row that leads to more, or up to the end. It stands out of line, so that it takes no
+    /// registers of the loops over structs.
+    #[inline(never)]
+    pub(crate) fn take_rows(
+        &self,
+        frame: Frame,
+        first: u32,
+        count: u32,
+        state: &mut State<'_, '_>,
+    ) -> Result<Turn, DecodeFault>
+        requires frame { FrameFine (table self.now) (came self.now) frame }
+        requires left { frame.left ≡ left.Rows first count }
+        requires holds { Holds self.now state.old }
+        requires state { StateFine (message self.now) (at_of state.old) }
+        requires ready { CanReadFrame self.now state.old frame }
+        requires budget { state.old.steps + turn_work (came self.now) state.old.next frame < 2 ^ 40 }
+        ensures holds { Holds self.now state.new }
+        ensures ok { IfOk result (λ turn. Turns (table self.now) (message self.now) frame
+            (at_of state.old) (at_of state.new) (state.new.steps - state.old.steps) turn) }
+        ensures rises { OnOk result (state.old.steps < state.new.steps) }
+        ensures cost { state.new.steps ≤ state.old.steps + turn_work (came self.now) state.old.next
+            frame }
+        ensures fault_is_true { IfErr result (BreaksFrame (table self.now) (message self.now)
+            frame (at_of state.old)) }
+    {
+        let mut rest = frame;
+        let mut next = first;
+        let mut many = count;
+        loop {
+            let turn = self.take_row(rest, next, many, state)?;
+            let Some(after) = turn.rest else {
+                return Ok(turn);
+            };
+            let Remaining::Rows {
+                first: ahead,
+                count: left,
+            } = after.left
+            else {
+                return Ok(turn);
+            };
+            let Some(below) = turn.below else {
+                if self.leaf_is_next(ahead, left) {
+                    return Ok(turn);
+                }
+                rest = after;
+                next = ahead;
+                many = left;
+                continue;
+            };
+            let Some(inner) = self.read_next_leaves(below, state)? else {
+                if self.leaf_is_next(ahead, left) {
+                    return Ok(Turn {
+                        below: None,
+                        rest: Some(after),
+                    });
+                }
+                rest = after;
+                next = ahead;
+                many = left;
+                continue;
+            };
+            return Ok(Turn {
+                below: Some(inner),
+                rest: Some(after),
+            });
+        }
     }
 }
