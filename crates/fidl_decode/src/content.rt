@@ -328,7 +328,13 @@ impl<'t, 'm, 's> Frames<'t, 'm, 's> {
                 count,
                 until,
             } => self.take_content(frame, entry, size as usize, count, until, state)?,
-            Remaining::Rows { first, count } => self.take_rows(frame, first, count, state)?,
+            Remaining::Rows { first, count } => {
+                if count > 1 {
+                    let turn = self.take_rows(frame, first, count, state)?;
+                    return Ok(Pending { under: None, turn });
+                }
+                self.take_row(frame, first, count, state)?
+            }
             Remaining::Elements { entry, size, count } => {
                 return self.take_elements(frame, entry, size as usize, count, state);
             }
