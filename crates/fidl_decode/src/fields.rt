@@ -11,14 +11,12 @@ ghost use Rattle.fidl_decode_model.specs.Machine.{IsKnown, turn_work, at_of};
 ghost use Rattle.fidl_decode.specs.Reading.{table, came, message, Holds, CanReadFrame};
 
 use crate::frames::Frames;
+use crate::kinds::STRUCT;
 use fidl_decode_columns::is_free;
 use fidl_decode_model::DecodeFault;
 use fidl_decode_model::frame::{Frame, Remaining, State};
 use fidl_decode_values::Plain;
 use fidl_table_format::EntryKind;
-
-/// The number of the kind of structs.
-const STRUCT: u8 = 16;
 
 impl<'t, 'm, 's> Frames<'t, 'm, 's> {
     /// Reads the last member of a struct, where nothing is left behind it: what it leads to takes
@@ -95,7 +93,7 @@ impl<'t, 'm, 's> Frames<'t, 'm, 's> {
         ensures fault_is_true { IfErr result (BreaksFrame (table self.now) (message self.now)
             frame (at_of state.old)) }
     {
-        let Some(now) = self.read_nested(frame, known, state)? else {
+        let Some(now) = self.read_nested::<true>(frame, known, state)? else {
             return Ok(None);
         };
         let Remaining::Rows {

@@ -1,6 +1,6 @@
 //! The elements of an array or vector, each read in place with what it leads to.
 ghost use Rattle.std.specs.Prelude.{◌≡◌, ◌+◌, ◌-◌, ◌^◌, ◌<◌, ◌≤◌, OnOk, IfOk, IfErr, Some, IsTrue};
-ghost use Rattle.std.specs.Prelude.{None, length};
+ghost use Rattle.std.specs.Prelude.{None, IsFalse, length};
 ghost use Rattle.fidl_limits.specs.declared.limits.TheConstants.{MAX_DEPTH};
 ghost use Rattle.fidl_wire.specs.Term as ty;
 ghost use Rattle.fidl_wire.specs.Term.{resolve};
@@ -17,6 +17,7 @@ ghost use Rattle.fidl_decode.specs.Reading.{table, came, message, Holds, CanRead
 ghost use Rattle.fidl_decode.specs.Reading.{CanReadValue};
 
 use crate::frames::Frames;
+use crate::kinds::UNION;
 use fidl_decode_model::DecodeFault;
 use fidl_decode_model::frame::{Frame, Remaining, State, Turn};
 
@@ -59,6 +60,30 @@ impl<'t, 'm, 's> Frames<'t, 'm, 's> {
         self.read_leaves(below, state)
     }
 
+    /// Passes over a union at a place, where it can be passed over. Else nothing is read.
+    #[inline(always)]
+    fn pass_item(&self, entry: u32, place: usize, depth: u8, state: &mut State<'_, '_>) -> bool
+        requires entry { entry < (header_of (table self.now)).entries }
+        requires room { place + (entry_at (table self.now) entry).size ≤ length (came self.now) }
+        requires holds { Holds self.now state.old }
+        requires state { StateFine (message self.now) (at_of state.old) }
+        requires ready { CanReadValue self.now state.old entry place }
+        requires depth { depth ≤ MAX_DEPTH }
+        requires budget { state.old.steps < 2 ^ 40 }
+        ensures holds { Holds self.now state.new }
+        ensures passed { IsTrue result → Visits (table self.now) (message self.now) depth entry
+            place (at_of state.old) (at_of state.new) (state.new.steps - state.old.steps) None }
+        ensures kept { IsFalse result → at_of state.new ≡ at_of state.old }
+        ensures uncounted { IsFalse result → state.new.steps ≡ state.old.steps }
+        ensures grows { state.old.steps ≤ state.new.steps }
+        ensures pays { state.new.steps + state.old.next ≤ state.old.steps + state.new.next + 2 }
+    {
+        if self.decoder.entry(entry).kind != UNION {
+            return false;
+        }
+        self.decoder.pass_value(entry, place, place, depth, state)
+    }
+
     /// Reads an element at a place, as `read_item` does. A loop over tables alone has no code for
     /// other values in it.
     #[inline(always)]
@@ -95,6 +120,9 @@ impl<'t, 'm, 's> Frames<'t, 'm, 's> {
     {
         if TABLES {
             return self.decoder.read_table(entry, place, depth, state);
+        }
+        if self.pass_item(entry, place, depth, state) {
+            return Ok(None);
         }
         self.read_item(entry, place, depth, in_envelope, state)
     }

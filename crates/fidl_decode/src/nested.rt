@@ -11,12 +11,10 @@ ghost use Rattle.fidl_decode_model.specs.Machine.{IsKnown, turn_work, at_of};
 ghost use Rattle.fidl_decode.specs.Reading.{table, came, message, Holds, CanReadFrame};
 
 use crate::frames::Frames;
+use crate::kinds::BOX;
 use fidl_decode_model::DecodeFault;
 use fidl_decode_model::frame::{Frame, Remaining, State};
 use fidl_decode_values::{Plain, rows_from};
-
-/// The number of the kind of boxes.
-const BOX: u8 = 15;
 
 impl<'t, 'm, 's> Frames<'t, 'm, 's> {
     /// Whether a row is the last of a struct of this size, and a box behind which nothing is left.
@@ -75,9 +73,10 @@ impl<'t, 'm, 's> Frames<'t, 'm, 's> {
     }
 
     /// Reads the rows of a struct in place, and those of the struct in the box that its last member
-    /// is, and so on, up to the first member that is neither. Nothing is left at the end.
+    /// is, and so on, up to the first member that is neither. Nothing is left at the end. Where
+    /// PASSING is true, members that can be passed over are read too.
     #[inline(always)]
-    pub(crate) fn read_nested(
+    pub(crate) fn read_nested<const PASSING: bool>(
         &self,
         frame: Frame,
         known: &Plain,
@@ -123,7 +122,13 @@ impl<'t, 'm, 's> Frames<'t, 'm, 's> {
                 continue;
             }
             if !self.ends_in_box(next, many, holder.size as usize) {
-                return Ok(Some(rest));
+                if !self.pass_row::<PASSING>(rest, next, many, state) {
+                    return Ok(Some(rest));
+                }
+                done = row.key as usize + e.size as usize;
+                next += 1;
+                many -= 1;
+                continue;
             }
             let Some(below) = self.enter_box(rest, next, state)? else {
                 return Ok(None);
@@ -146,7 +151,7 @@ impl<'t, 'm, 's> Frames<'t, 'm, 's> {
     }
 
     /// Reads a struct as `read_nested` does, which is inlined in the loop over the structs of a
-    /// vector.
+    /// vector. No member is passed over, since the loop has no register to spare for it.
     pub(crate) fn read_boxed(
         &self,
         frame: Frame,
@@ -173,6 +178,6 @@ impl<'t, 'm, 's> Frames<'t, 'm, 's> {
             return Ok(Some(frame));
         };
         let known = self.decoder.plain_below(first, count);
-        self.read_nested(frame, &known, state)
+        self.read_nested::<false>(frame, &known, state)
     }
 }

@@ -268,7 +268,7 @@ impl<'t, 'm, 's> Frames<'t, 'm, 's> {
         let mut next = first;
         let mut many = count;
         loop {
-            let turn = self.take_row(rest, next, many, state)?;
+            let turn = self.pass_or_take_row(rest, next, many, state)?;
             let Some(after) = turn.rest else {
                 return Ok(turn);
             };

@@ -18,6 +18,7 @@ pub mod Known
 pub mod Words
 pub mod Freely
 pub mod Sequences
+pub mod BoxContent
 pub mod BodyTurns
 pub mod TextMember
 pub mod ReadyPlaces

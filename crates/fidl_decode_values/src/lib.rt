@@ -13,6 +13,7 @@ mod markers;
 mod passing;
 mod passing_structs;
 mod passing_texts;
+mod passing_values;
 mod plain;
 mod reading;
 mod tables;

@@ -20,7 +20,7 @@ impl<'t, 'm, 's> Decoder<'t, 'm, 's> {
     /// How many bytes the members of these rows have, where they are no more than are looked at:
     /// any bytes are values of them, and they stand behind one another without a gap.
     #[inline(always)]
-    fn free_size(&self, first: u32, count: u32) -> Option<usize>
+    pub(crate) fn free_size(&self, first: u32, count: u32) -> Option<usize>
         requires within { first + count ≤ (header_of self.now.table.now).rows }
         ensures wide { IfSome result (λ done. count ≤ done) }
         ensures passes { IfSome result (λ done. Passes self.now.table.now (message self.now)

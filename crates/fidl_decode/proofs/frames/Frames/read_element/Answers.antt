@@ -37,3 +37,10 @@ pub returns-then-this-ne0-clause-cost : goal.returns-then-this-ne0-clause-cost
 returns-then-this-ne0-clause-cost g c =
     let within = leaf_cost c.args.self.now.decoder.table.now c.args.self.now.decoder.fine c.args.self.now.decoder.bytes.value.came c.args.state.now.next c.args.entry c.requires.entry in
     omega (arith, within, c.read_table.ensures.spends.most)
+
+pub returns-then-pass_item-clause-cost : goal.returns-then-pass_item-clause-cost
+returns-then-pass_item-clause-cost g c =
+    let within = leaf_cost c.args.self.now.decoder.table.now c.args.self.now.decoder.fine c.args.self.now.decoder.bytes.value.came c.args.state.now.next c.args.entry c.requires.entry in
+    let v = c.pass_item.ensures.passed c.if-pass_item.true in
+    let next = v.state.next in
+    omega (arith, within, c.pass_item.ensures.pays, next)

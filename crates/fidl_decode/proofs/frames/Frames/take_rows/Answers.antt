@@ -18,29 +18,29 @@ loop-turn-init c =
       steps = omega arith;
     }
 
-pub take_row-requires-clause-frame : goal.take_row-requires-clause-frame
-take_row-requires-clause-frame c =
+pub pass_or_take_row-requires-clause-frame : goal.pass_or_take_row-requires-clause-frame
+pass_or_take_row-requires-clause-frame c =
     c.loop-turn.invariant.turns.rest_fine.0
 
-pub take_row-requires-clause-left : goal.take_row-requires-clause-left
-take_row-requires-clause-left c =
+pub pass_or_take_row-requires-clause-left : goal.pass_or_take_row-requires-clause-left
+pass_or_take_row-requires-clause-left c =
     c.loop-turn.invariant.left
 
-pub take_row-requires-clause-holds : goal.take_row-requires-clause-holds
-take_row-requires-clause-holds c =
+pub pass_or_take_row-requires-clause-holds : goal.pass_or_take_row-requires-clause-holds
+pass_or_take_row-requires-clause-holds c =
     c.loop-turn.invariant.holds
 
-pub take_row-requires-clause-state : goal.take_row-requires-clause-state
-take_row-requires-clause-state c =
+pub pass_or_take_row-requires-clause-state : goal.pass_or_take_row-requires-clause-state
+pass_or_take_row-requires-clause-state c =
     c.loop-turn.invariant.turns.state
 
-pub take_row-requires-clause-ready : goal.take_row-requires-clause-ready
-take_row-requires-clause-ready c =
+pub pass_or_take_row-requires-clause-ready : goal.pass_or_take_row-requires-clause-ready
+pass_or_take_row-requires-clause-ready c =
     let p = c.loop-turn.invariant.turns.moves c.requires.ready.0 c.requires.ready.1 in
     (p.ahead, p.rest_clear)
 
-pub take_row-requires-clause-budget : goal.take_row-requires-clause-budget
-take_row-requires-clause-budget c =
+pub pass_or_take_row-requires-clause-budget : goal.pass_or_take_row-requires-clause-budget
+pass_or_take_row-requires-clause-budget c =
     let so_far = c.loop-turn.invariant.steps in
     let less = c.loop-turn.invariant.turns.less in
     omega (arith, less, so_far, c.requires.budget)
@@ -64,10 +64,10 @@ returns-in_default-clause-ok c =
     let m = message c.args.self.now.decoder in
     let f = c.args.frame in
     let old = at_of c.args.state.now in
-    let new = at_of c.take_row.new.state in
+    let new = at_of c.pass_or_take_row.new.state in
     let so_far = c.loop-turn.invariant.steps in
     let rises = one_more _ _ _ c.in_ok-turn.ensures.spends in
-    let read = turn_on t m f c.loop-turn.rest old (at_of c.loop-turn.state) new c.args.state.now.steps c.loop-turn.state.steps c.take_row.new.state.steps c.in_ok-turn.turn c.loop-turn.invariant.turns so_far (omega (arith, rises))
+    let read = turn_on t m f c.loop-turn.rest old (at_of c.loop-turn.state) new c.args.state.now.steps c.loop-turn.state.steps c.pass_or_take_row.new.state.steps c.in_ok-turn.turn c.loop-turn.invariant.turns so_far (omega (arith, rises))
     c.in_ok-turn.ensures.ok in
     read
 
@@ -77,10 +77,10 @@ returns-in_default-clause-rises c =
     let m = message c.args.self.now.decoder in
     let f = c.args.frame in
     let old = at_of c.args.state.now in
-    let new = at_of c.take_row.new.state in
+    let new = at_of c.pass_or_take_row.new.state in
     let so_far = c.loop-turn.invariant.steps in
     let rises = one_more _ _ _ c.in_ok-turn.ensures.spends in
-    let read = turn_on t m f c.loop-turn.rest old (at_of c.loop-turn.state) new c.args.state.now.steps c.loop-turn.state.steps c.take_row.new.state.steps c.in_ok-turn.turn c.loop-turn.invariant.turns so_far (omega (arith, rises))
+    let read = turn_on t m f c.loop-turn.rest old (at_of c.loop-turn.state) new c.args.state.now.steps c.loop-turn.state.steps c.pass_or_take_row.new.state.steps c.in_ok-turn.turn c.loop-turn.invariant.turns so_far (omega (arith, rises))
     c.in_ok-turn.ensures.ok in
     let less = read.less in
     omega (arith, so_far, rises)
@@ -91,10 +91,10 @@ returns-in_default-clause-cost c =
     let m = message c.args.self.now.decoder in
     let f = c.args.frame in
     let old = at_of c.args.state.now in
-    let new = at_of c.take_row.new.state in
+    let new = at_of c.pass_or_take_row.new.state in
     let so_far = c.loop-turn.invariant.steps in
     let rises = one_more _ _ _ c.in_ok-turn.ensures.spends in
-    let read = turn_on t m f c.loop-turn.rest old (at_of c.loop-turn.state) new c.args.state.now.steps c.loop-turn.state.steps c.take_row.new.state.steps c.in_ok-turn.turn c.loop-turn.invariant.turns so_far (omega (arith, rises))
+    let read = turn_on t m f c.loop-turn.rest old (at_of c.loop-turn.state) new c.args.state.now.steps c.loop-turn.state.steps c.pass_or_take_row.new.state.steps c.in_ok-turn.turn c.loop-turn.invariant.turns so_far (omega (arith, rises))
     c.in_ok-turn.ensures.ok in
     let less = read.less in
     omega (arith, less, so_far, rises)
@@ -105,13 +105,13 @@ returns-in_default-left c =
     let m = message c.args.self.now.decoder in
     let f = c.args.frame in
     let old = at_of c.args.state.now in
-    let new = at_of c.take_row.new.state in
+    let new = at_of c.pass_or_take_row.new.state in
     let so_far = c.loop-turn.invariant.steps in
     let rises = one_more _ _ _ c.in_ok-turn.ensures.spends in
-    let read = turn_on t m f c.loop-turn.rest old (at_of c.loop-turn.state) new c.args.state.now.steps c.loop-turn.state.steps c.take_row.new.state.steps c.in_ok-turn.turn c.loop-turn.invariant.turns so_far (omega (arith, rises))
+    let read = turn_on t m f c.loop-turn.rest old (at_of c.loop-turn.state) new c.args.state.now.steps c.loop-turn.state.steps c.pass_or_take_row.new.state.steps c.in_ok-turn.turn c.loop-turn.invariant.turns so_far (omega (arith, rises))
     c.in_ok-turn.ensures.ok in
     let less = read.less in
-    record { holds = c.take_row.ensures.holds; ok = read; rises = omega (arith, so_far, rises); cost = omega (arith, less, so_far, rises); fault_is_true = tt }
+    record { holds = c.pass_or_take_row.ensures.holds; ok = read; rises = omega (arith, so_far, rises); cost = omega (arith, less, so_far, rises); fault_is_true = tt }
 
 pub returns-then-leaf_is_next-clause-ok : goal.returns-then-leaf_is_next-clause-ok
 returns-then-leaf_is_next-clause-ok c =
@@ -119,10 +119,10 @@ returns-then-leaf_is_next-clause-ok c =
     let m = message c.args.self.now.decoder in
     let f = c.args.frame in
     let old = at_of c.args.state.now in
-    let new = at_of c.take_row.new.state in
+    let new = at_of c.pass_or_take_row.new.state in
     let so_far = c.loop-turn.invariant.steps in
     let rises = one_more _ _ _ c.in_ok-turn.ensures.spends in
-    let read = turn_on t m f c.loop-turn.rest old (at_of c.loop-turn.state) new c.args.state.now.steps c.loop-turn.state.steps c.take_row.new.state.steps c.in_ok-turn.turn c.loop-turn.invariant.turns so_far (omega (arith, rises))
+    let read = turn_on t m f c.loop-turn.rest old (at_of c.loop-turn.state) new c.args.state.now.steps c.loop-turn.state.steps c.pass_or_take_row.new.state.steps c.in_ok-turn.turn c.loop-turn.invariant.turns so_far (omega (arith, rises))
     c.in_ok-turn.ensures.ok in
     read
 
@@ -132,10 +132,10 @@ returns-then-leaf_is_next-clause-rises c =
     let m = message c.args.self.now.decoder in
     let f = c.args.frame in
     let old = at_of c.args.state.now in
-    let new = at_of c.take_row.new.state in
+    let new = at_of c.pass_or_take_row.new.state in
     let so_far = c.loop-turn.invariant.steps in
     let rises = one_more _ _ _ c.in_ok-turn.ensures.spends in
-    let read = turn_on t m f c.loop-turn.rest old (at_of c.loop-turn.state) new c.args.state.now.steps c.loop-turn.state.steps c.take_row.new.state.steps c.in_ok-turn.turn c.loop-turn.invariant.turns so_far (omega (arith, rises))
+    let read = turn_on t m f c.loop-turn.rest old (at_of c.loop-turn.state) new c.args.state.now.steps c.loop-turn.state.steps c.pass_or_take_row.new.state.steps c.in_ok-turn.turn c.loop-turn.invariant.turns so_far (omega (arith, rises))
     c.in_ok-turn.ensures.ok in
     let less = read.less in
     omega (arith, so_far, rises)
@@ -146,10 +146,10 @@ returns-then-leaf_is_next-clause-cost c =
     let m = message c.args.self.now.decoder in
     let f = c.args.frame in
     let old = at_of c.args.state.now in
-    let new = at_of c.take_row.new.state in
+    let new = at_of c.pass_or_take_row.new.state in
     let so_far = c.loop-turn.invariant.steps in
     let rises = one_more _ _ _ c.in_ok-turn.ensures.spends in
-    let read = turn_on t m f c.loop-turn.rest old (at_of c.loop-turn.state) new c.args.state.now.steps c.loop-turn.state.steps c.take_row.new.state.steps c.in_ok-turn.turn c.loop-turn.invariant.turns so_far (omega (arith, rises))
+    let read = turn_on t m f c.loop-turn.rest old (at_of c.loop-turn.state) new c.args.state.now.steps c.loop-turn.state.steps c.pass_or_take_row.new.state.steps c.in_ok-turn.turn c.loop-turn.invariant.turns so_far (omega (arith, rises))
     c.in_ok-turn.ensures.ok in
     let less = read.less in
     omega (arith, less, so_far, rises)
@@ -160,14 +160,14 @@ loop-turn-preserved-in_default-below c =
     let m = message c.args.self.now.decoder in
     let f = c.args.frame in
     let old = at_of c.args.state.now in
-    let new = at_of c.take_row.new.state in
+    let new = at_of c.pass_or_take_row.new.state in
     let so_far = c.loop-turn.invariant.steps in
     let rises = one_more _ _ _ c.in_ok-turn.ensures.spends in
-    let read = turn_on t m f c.loop-turn.rest old (at_of c.loop-turn.state) new c.args.state.now.steps c.loop-turn.state.steps c.take_row.new.state.steps c.in_ok-turn.turn c.loop-turn.invariant.turns so_far (omega (arith, rises))
+    let read = turn_on t m f c.loop-turn.rest old (at_of c.loop-turn.state) new c.args.state.now.steps c.loop-turn.state.steps c.pass_or_take_row.new.state.steps c.in_ok-turn.turn c.loop-turn.invariant.turns so_far (omega (arith, rises))
     c.in_ok-turn.ensures.ok in
     let turn : c.in_ok-turn.turn ≡ left_over (Some c.in-Some.after) = λ i. record { below = c.in_default-below.is i; rest = c.in-Some.is i } in
-    let alone = subst (λ (x : Turn). Turns t m f old new (c.take_row.new.state.steps - c.args.state.now.steps) x) turn read in
-    record { holds = c.take_row.ensures.holds; left = c.in-Rows.is; turns = alone; steps = omega (arith, so_far, rises) }
+    let alone = subst (λ (x : Turn). Turns t m f old new (c.pass_or_take_row.new.state.steps - c.args.state.now.steps) x) turn read in
+    record { holds = c.pass_or_take_row.ensures.holds; left = c.in-Rows.is; turns = alone; steps = omega (arith, so_far, rises) }
 
 pub read_next_leaves-requires-clause-frame : goal.read_next_leaves-requires-clause-frame
 read_next_leaves-requires-clause-frame c =
@@ -175,13 +175,13 @@ read_next_leaves-requires-clause-frame c =
     let m = message c.args.self.now.decoder in
     let f = c.args.frame in
     let old = at_of c.args.state.now in
-    let new = at_of c.take_row.new.state in
+    let new = at_of c.pass_or_take_row.new.state in
     let so_far = c.loop-turn.invariant.steps in
     let rises = one_more _ _ _ c.in_ok-turn.ensures.spends in
-    let read = turn_on t m f c.loop-turn.rest old (at_of c.loop-turn.state) new c.args.state.now.steps c.loop-turn.state.steps c.take_row.new.state.steps c.in_ok-turn.turn c.loop-turn.invariant.turns so_far (omega (arith, rises))
+    let read = turn_on t m f c.loop-turn.rest old (at_of c.loop-turn.state) new c.args.state.now.steps c.loop-turn.state.steps c.pass_or_take_row.new.state.steps c.in_ok-turn.turn c.loop-turn.invariant.turns so_far (omega (arith, rises))
     c.in_ok-turn.ensures.ok in
     let turn : c.in_ok-turn.turn ≡ record { below = Some c.in-Some-below.below; rest = Some c.in-Some.after } = λ i. record { below = c.in-Some-below.is i; rest = c.in-Some.is i } in
-    let both = subst (λ (x : Turn). Turns t m f old new (c.take_row.new.state.steps - c.args.state.now.steps) x) turn read in
+    let both = subst (λ (x : Turn). Turns t m f old new (c.pass_or_take_row.new.state.steps - c.args.state.now.steps) x) turn read in
     both.below_fine.0
 
 pub read_next_leaves-requires-clause-ready : goal.read_next_leaves-requires-clause-ready
@@ -190,13 +190,13 @@ read_next_leaves-requires-clause-ready c =
     let m = message c.args.self.now.decoder in
     let f = c.args.frame in
     let old = at_of c.args.state.now in
-    let new = at_of c.take_row.new.state in
+    let new = at_of c.pass_or_take_row.new.state in
     let so_far = c.loop-turn.invariant.steps in
     let rises = one_more _ _ _ c.in_ok-turn.ensures.spends in
-    let read = turn_on t m f c.loop-turn.rest old (at_of c.loop-turn.state) new c.args.state.now.steps c.loop-turn.state.steps c.take_row.new.state.steps c.in_ok-turn.turn c.loop-turn.invariant.turns so_far (omega (arith, rises))
+    let read = turn_on t m f c.loop-turn.rest old (at_of c.loop-turn.state) new c.args.state.now.steps c.loop-turn.state.steps c.pass_or_take_row.new.state.steps c.in_ok-turn.turn c.loop-turn.invariant.turns so_far (omega (arith, rises))
     c.in_ok-turn.ensures.ok in
     let turn : c.in_ok-turn.turn ≡ record { below = Some c.in-Some-below.below; rest = Some c.in-Some.after } = λ i. record { below = c.in-Some-below.is i; rest = c.in-Some.is i } in
-    let both = subst (λ (x : Turn). Turns t m f old new (c.take_row.new.state.steps - c.args.state.now.steps) x) turn read in
+    let both = subst (λ (x : Turn). Turns t m f old new (c.pass_or_take_row.new.state.steps - c.args.state.now.steps) x) turn read in
     let p = both.moves c.requires.ready.0 c.requires.ready.1 in
     (p.ahead, p.below_clear)
 
@@ -206,13 +206,13 @@ read_next_leaves-requires-clause-budget c =
     let m = message c.args.self.now.decoder in
     let f = c.args.frame in
     let old = at_of c.args.state.now in
-    let new = at_of c.take_row.new.state in
+    let new = at_of c.pass_or_take_row.new.state in
     let so_far = c.loop-turn.invariant.steps in
     let rises = one_more _ _ _ c.in_ok-turn.ensures.spends in
-    let read = turn_on t m f c.loop-turn.rest old (at_of c.loop-turn.state) new c.args.state.now.steps c.loop-turn.state.steps c.take_row.new.state.steps c.in_ok-turn.turn c.loop-turn.invariant.turns so_far (omega (arith, rises))
+    let read = turn_on t m f c.loop-turn.rest old (at_of c.loop-turn.state) new c.args.state.now.steps c.loop-turn.state.steps c.pass_or_take_row.new.state.steps c.in_ok-turn.turn c.loop-turn.invariant.turns so_far (omega (arith, rises))
     c.in_ok-turn.ensures.ok in
     let turn : c.in_ok-turn.turn ≡ record { below = Some c.in-Some-below.below; rest = Some c.in-Some.after } = λ i. record { below = c.in-Some-below.is i; rest = c.in-Some.is i } in
-    let both = subst (λ (x : Turn). Turns t m f old new (c.take_row.new.state.steps - c.args.state.now.steps) x) turn read in
+    let both = subst (λ (x : Turn). Turns t m f old new (c.pass_or_take_row.new.state.steps - c.args.state.now.steps) x) turn read in
     let less = both.less in
     omega (arith, less, so_far, rises, c.requires.budget)
 
@@ -222,13 +222,13 @@ returns-in_err-inner-clause-cost c =
     let m = message c.args.self.now.decoder in
     let f = c.args.frame in
     let old = at_of c.args.state.now in
-    let new = at_of c.take_row.new.state in
+    let new = at_of c.pass_or_take_row.new.state in
     let so_far = c.loop-turn.invariant.steps in
     let rises = one_more _ _ _ c.in_ok-turn.ensures.spends in
-    let read = turn_on t m f c.loop-turn.rest old (at_of c.loop-turn.state) new c.args.state.now.steps c.loop-turn.state.steps c.take_row.new.state.steps c.in_ok-turn.turn c.loop-turn.invariant.turns so_far (omega (arith, rises))
+    let read = turn_on t m f c.loop-turn.rest old (at_of c.loop-turn.state) new c.args.state.now.steps c.loop-turn.state.steps c.pass_or_take_row.new.state.steps c.in_ok-turn.turn c.loop-turn.invariant.turns so_far (omega (arith, rises))
     c.in_ok-turn.ensures.ok in
     let turn : c.in_ok-turn.turn ≡ record { below = Some c.in-Some-below.below; rest = Some c.in-Some.after } = λ i. record { below = c.in-Some-below.is i; rest = c.in-Some.is i } in
-    let both = subst (λ (x : Turn). Turns t m f old new (c.take_row.new.state.steps - c.args.state.now.steps) x) turn read in
+    let both = subst (λ (x : Turn). Turns t m f old new (c.pass_or_take_row.new.state.steps - c.args.state.now.steps) x) turn read in
     let less = both.less in
     omega (arith, less, so_far, rises, c.in_err-inner.ensures.cost)
 
@@ -238,15 +238,15 @@ returns-in_err-inner-clause-fault_is_true c =
     let m = message c.args.self.now.decoder in
     let f = c.args.frame in
     let old = at_of c.args.state.now in
-    let new = at_of c.take_row.new.state in
+    let new = at_of c.pass_or_take_row.new.state in
     let so_far = c.loop-turn.invariant.steps in
     let rises = one_more _ _ _ c.in_ok-turn.ensures.spends in
-    let read = turn_on t m f c.loop-turn.rest old (at_of c.loop-turn.state) new c.args.state.now.steps c.loop-turn.state.steps c.take_row.new.state.steps c.in_ok-turn.turn c.loop-turn.invariant.turns so_far (omega (arith, rises))
+    let read = turn_on t m f c.loop-turn.rest old (at_of c.loop-turn.state) new c.args.state.now.steps c.loop-turn.state.steps c.pass_or_take_row.new.state.steps c.in_ok-turn.turn c.loop-turn.invariant.turns so_far (omega (arith, rises))
     c.in_ok-turn.ensures.ok in
     let turn : c.in_ok-turn.turn ≡ record { below = Some c.in-Some-below.below; rest = Some c.in-Some.after } = λ i. record { below = c.in-Some-below.is i; rest = c.in-Some.is i } in
-    let both = subst (λ (x : Turn). Turns t m f old new (c.take_row.new.state.steps - c.args.state.now.steps) x) turn read in
+    let both = subst (λ (x : Turn). Turns t m f old new (c.pass_or_take_row.new.state.steps - c.args.state.now.steps) x) turn read in
     passed_on c.from_residual-in_err-inner.result c.in_err-inner.field-0.0 _ c.from_residual-in_err-inner.ensures.1
-    (below_breaks t m f old new (c.take_row.new.state.steps - c.args.state.now.steps) c.in-Some-below.below c.in-Some.after both _ c.in_err-inner.ensures.fault_is_true)
+    (below_breaks t m f old new (c.pass_or_take_row.new.state.steps - c.args.state.now.steps) c.in-Some-below.below c.in-Some.after both _ c.in_err-inner.ensures.fault_is_true)
 
 pub returns-then-leaf_is_next-2-clause-ok : goal.returns-then-leaf_is_next-2-clause-ok
 returns-then-leaf_is_next-2-clause-ok c =
@@ -254,17 +254,17 @@ returns-then-leaf_is_next-2-clause-ok c =
     let m = message c.args.self.now.decoder in
     let f = c.args.frame in
     let old = at_of c.args.state.now in
-    let new = at_of c.take_row.new.state in
+    let new = at_of c.pass_or_take_row.new.state in
     let so_far = c.loop-turn.invariant.steps in
     let rises = one_more _ _ _ c.in_ok-turn.ensures.spends in
-    let read = turn_on t m f c.loop-turn.rest old (at_of c.loop-turn.state) new c.args.state.now.steps c.loop-turn.state.steps c.take_row.new.state.steps c.in_ok-turn.turn c.loop-turn.invariant.turns so_far (omega (arith, rises))
+    let read = turn_on t m f c.loop-turn.rest old (at_of c.loop-turn.state) new c.args.state.now.steps c.loop-turn.state.steps c.pass_or_take_row.new.state.steps c.in_ok-turn.turn c.loop-turn.invariant.turns so_far (omega (arith, rises))
     c.in_ok-turn.ensures.ok in
     let turn : c.in_ok-turn.turn ≡ record { below = Some c.in-Some-below.below; rest = Some c.in-Some.after } = λ i. record { below = c.in-Some-below.is i; rest = c.in-Some.is i } in
-    let both = subst (λ (x : Turn). Turns t m f old new (c.take_row.new.state.steps - c.args.state.now.steps) x) turn read in
+    let both = subst (λ (x : Turn). Turns t m f old new (c.pass_or_take_row.new.state.steps - c.args.state.now.steps) x) turn read in
     let on = c.in_ok-inner.ensures.grows in
     let last = at_of c.read_next_leaves.new.state in
-    let two = subst (λ (o : Option Frame). Turns t m c.in-Some-below.below new last (c.read_next_leaves.new.state.steps - c.take_row.new.state.steps) (left_over o)) c.in_default-2.is c.in_ok-inner.ensures.ok in
-    let over = turns_over t m f old new (c.take_row.new.state.steps - c.args.state.now.steps) c.in-Some-below.below c.in-Some.after both last _ (c.read_next_leaves.new.state.steps - c.args.state.now.steps) (omega (arith, so_far, rises, on)) two in
+    let two = subst (λ (o : Option Frame). Turns t m c.in-Some-below.below new last (c.read_next_leaves.new.state.steps - c.pass_or_take_row.new.state.steps) (left_over o)) c.in_default-2.is c.in_ok-inner.ensures.ok in
+    let over = turns_over t m f old new (c.pass_or_take_row.new.state.steps - c.args.state.now.steps) c.in-Some-below.below c.in-Some.after both last _ (c.read_next_leaves.new.state.steps - c.args.state.now.steps) (omega (arith, so_far, rises, on)) two in
     over
 
 pub returns-then-leaf_is_next-2-clause-rises : goal.returns-then-leaf_is_next-2-clause-rises
@@ -273,17 +273,17 @@ returns-then-leaf_is_next-2-clause-rises c =
     let m = message c.args.self.now.decoder in
     let f = c.args.frame in
     let old = at_of c.args.state.now in
-    let new = at_of c.take_row.new.state in
+    let new = at_of c.pass_or_take_row.new.state in
     let so_far = c.loop-turn.invariant.steps in
     let rises = one_more _ _ _ c.in_ok-turn.ensures.spends in
-    let read = turn_on t m f c.loop-turn.rest old (at_of c.loop-turn.state) new c.args.state.now.steps c.loop-turn.state.steps c.take_row.new.state.steps c.in_ok-turn.turn c.loop-turn.invariant.turns so_far (omega (arith, rises))
+    let read = turn_on t m f c.loop-turn.rest old (at_of c.loop-turn.state) new c.args.state.now.steps c.loop-turn.state.steps c.pass_or_take_row.new.state.steps c.in_ok-turn.turn c.loop-turn.invariant.turns so_far (omega (arith, rises))
     c.in_ok-turn.ensures.ok in
     let turn : c.in_ok-turn.turn ≡ record { below = Some c.in-Some-below.below; rest = Some c.in-Some.after } = λ i. record { below = c.in-Some-below.is i; rest = c.in-Some.is i } in
-    let both = subst (λ (x : Turn). Turns t m f old new (c.take_row.new.state.steps - c.args.state.now.steps) x) turn read in
+    let both = subst (λ (x : Turn). Turns t m f old new (c.pass_or_take_row.new.state.steps - c.args.state.now.steps) x) turn read in
     let on = c.in_ok-inner.ensures.grows in
     let last = at_of c.read_next_leaves.new.state in
-    let two = subst (λ (o : Option Frame). Turns t m c.in-Some-below.below new last (c.read_next_leaves.new.state.steps - c.take_row.new.state.steps) (left_over o)) c.in_default-2.is c.in_ok-inner.ensures.ok in
-    let over = turns_over t m f old new (c.take_row.new.state.steps - c.args.state.now.steps) c.in-Some-below.below c.in-Some.after both last _ (c.read_next_leaves.new.state.steps - c.args.state.now.steps) (omega (arith, so_far, rises, on)) two in
+    let two = subst (λ (o : Option Frame). Turns t m c.in-Some-below.below new last (c.read_next_leaves.new.state.steps - c.pass_or_take_row.new.state.steps) (left_over o)) c.in_default-2.is c.in_ok-inner.ensures.ok in
+    let over = turns_over t m f old new (c.pass_or_take_row.new.state.steps - c.args.state.now.steps) c.in-Some-below.below c.in-Some.after both last _ (c.read_next_leaves.new.state.steps - c.args.state.now.steps) (omega (arith, so_far, rises, on)) two in
     let less = over.less in
     omega (arith, so_far, rises, on)
 
@@ -293,17 +293,17 @@ returns-then-leaf_is_next-2-clause-cost c =
     let m = message c.args.self.now.decoder in
     let f = c.args.frame in
     let old = at_of c.args.state.now in
-    let new = at_of c.take_row.new.state in
+    let new = at_of c.pass_or_take_row.new.state in
     let so_far = c.loop-turn.invariant.steps in
     let rises = one_more _ _ _ c.in_ok-turn.ensures.spends in
-    let read = turn_on t m f c.loop-turn.rest old (at_of c.loop-turn.state) new c.args.state.now.steps c.loop-turn.state.steps c.take_row.new.state.steps c.in_ok-turn.turn c.loop-turn.invariant.turns so_far (omega (arith, rises))
+    let read = turn_on t m f c.loop-turn.rest old (at_of c.loop-turn.state) new c.args.state.now.steps c.loop-turn.state.steps c.pass_or_take_row.new.state.steps c.in_ok-turn.turn c.loop-turn.invariant.turns so_far (omega (arith, rises))
     c.in_ok-turn.ensures.ok in
     let turn : c.in_ok-turn.turn ≡ record { below = Some c.in-Some-below.below; rest = Some c.in-Some.after } = λ i. record { below = c.in-Some-below.is i; rest = c.in-Some.is i } in
-    let both = subst (λ (x : Turn). Turns t m f old new (c.take_row.new.state.steps - c.args.state.now.steps) x) turn read in
+    let both = subst (λ (x : Turn). Turns t m f old new (c.pass_or_take_row.new.state.steps - c.args.state.now.steps) x) turn read in
     let on = c.in_ok-inner.ensures.grows in
     let last = at_of c.read_next_leaves.new.state in
-    let two = subst (λ (o : Option Frame). Turns t m c.in-Some-below.below new last (c.read_next_leaves.new.state.steps - c.take_row.new.state.steps) (left_over o)) c.in_default-2.is c.in_ok-inner.ensures.ok in
-    let over = turns_over t m f old new (c.take_row.new.state.steps - c.args.state.now.steps) c.in-Some-below.below c.in-Some.after both last _ (c.read_next_leaves.new.state.steps - c.args.state.now.steps) (omega (arith, so_far, rises, on)) two in
+    let two = subst (λ (o : Option Frame). Turns t m c.in-Some-below.below new last (c.read_next_leaves.new.state.steps - c.pass_or_take_row.new.state.steps) (left_over o)) c.in_default-2.is c.in_ok-inner.ensures.ok in
+    let over = turns_over t m f old new (c.pass_or_take_row.new.state.steps - c.args.state.now.steps) c.in-Some-below.below c.in-Some.after both last _ (c.read_next_leaves.new.state.steps - c.args.state.now.steps) (omega (arith, so_far, rises, on)) two in
     let less = over.less in
     omega (arith, less, so_far, rises, on)
 
@@ -313,17 +313,17 @@ loop-turn-preserved c =
     let m = message c.args.self.now.decoder in
     let f = c.args.frame in
     let old = at_of c.args.state.now in
-    let new = at_of c.take_row.new.state in
+    let new = at_of c.pass_or_take_row.new.state in
     let so_far = c.loop-turn.invariant.steps in
     let rises = one_more _ _ _ c.in_ok-turn.ensures.spends in
-    let read = turn_on t m f c.loop-turn.rest old (at_of c.loop-turn.state) new c.args.state.now.steps c.loop-turn.state.steps c.take_row.new.state.steps c.in_ok-turn.turn c.loop-turn.invariant.turns so_far (omega (arith, rises))
+    let read = turn_on t m f c.loop-turn.rest old (at_of c.loop-turn.state) new c.args.state.now.steps c.loop-turn.state.steps c.pass_or_take_row.new.state.steps c.in_ok-turn.turn c.loop-turn.invariant.turns so_far (omega (arith, rises))
     c.in_ok-turn.ensures.ok in
     let turn : c.in_ok-turn.turn ≡ record { below = Some c.in-Some-below.below; rest = Some c.in-Some.after } = λ i. record { below = c.in-Some-below.is i; rest = c.in-Some.is i } in
-    let both = subst (λ (x : Turn). Turns t m f old new (c.take_row.new.state.steps - c.args.state.now.steps) x) turn read in
+    let both = subst (λ (x : Turn). Turns t m f old new (c.pass_or_take_row.new.state.steps - c.args.state.now.steps) x) turn read in
     let on = c.in_ok-inner.ensures.grows in
     let last = at_of c.read_next_leaves.new.state in
-    let two = subst (λ (o : Option Frame). Turns t m c.in-Some-below.below new last (c.read_next_leaves.new.state.steps - c.take_row.new.state.steps) (left_over o)) c.in_default-2.is c.in_ok-inner.ensures.ok in
-    let over = turns_over t m f old new (c.take_row.new.state.steps - c.args.state.now.steps) c.in-Some-below.below c.in-Some.after both last _ (c.read_next_leaves.new.state.steps - c.args.state.now.steps) (omega (arith, so_far, rises, on)) two in
+    let two = subst (λ (o : Option Frame). Turns t m c.in-Some-below.below new last (c.read_next_leaves.new.state.steps - c.pass_or_take_row.new.state.steps) (left_over o)) c.in_default-2.is c.in_ok-inner.ensures.ok in
+    let over = turns_over t m f old new (c.pass_or_take_row.new.state.steps - c.args.state.now.steps) c.in-Some-below.below c.in-Some.after both last _ (c.read_next_leaves.new.state.steps - c.args.state.now.steps) (omega (arith, so_far, rises, on)) two in
     record { holds = c.read_next_leaves.ensures.holds; left = c.in-Rows.is; turns = over; steps = omega (arith, so_far, rises, on) }
 
 pub returns-in-loop-turn-clause-ok : goal.returns-in-loop-turn-clause-ok
@@ -332,17 +332,17 @@ returns-in-loop-turn-clause-ok c =
     let m = message c.args.self.now.decoder in
     let f = c.args.frame in
     let old = at_of c.args.state.now in
-    let new = at_of c.take_row.new.state in
+    let new = at_of c.pass_or_take_row.new.state in
     let so_far = c.loop-turn.invariant.steps in
     let rises = one_more _ _ _ c.in_ok-turn.ensures.spends in
-    let read = turn_on t m f c.loop-turn.rest old (at_of c.loop-turn.state) new c.args.state.now.steps c.loop-turn.state.steps c.take_row.new.state.steps c.in_ok-turn.turn c.loop-turn.invariant.turns so_far (omega (arith, rises))
+    let read = turn_on t m f c.loop-turn.rest old (at_of c.loop-turn.state) new c.args.state.now.steps c.loop-turn.state.steps c.pass_or_take_row.new.state.steps c.in_ok-turn.turn c.loop-turn.invariant.turns so_far (omega (arith, rises))
     c.in_ok-turn.ensures.ok in
     let turn : c.in_ok-turn.turn ≡ record { below = Some c.in-Some-below.below; rest = Some c.in-Some.after } = λ i. record { below = c.in-Some-below.is i; rest = c.in-Some.is i } in
-    let both = subst (λ (x : Turn). Turns t m f old new (c.take_row.new.state.steps - c.args.state.now.steps) x) turn read in
+    let both = subst (λ (x : Turn). Turns t m f old new (c.pass_or_take_row.new.state.steps - c.args.state.now.steps) x) turn read in
     let on = c.in_ok-inner.ensures.grows in
     let last = at_of c.read_next_leaves.new.state in
-    let two = subst (λ (o : Option Frame). Turns t m c.in-Some-below.below new last (c.read_next_leaves.new.state.steps - c.take_row.new.state.steps) (left_over o)) c.in-Some-2.is c.in_ok-inner.ensures.ok in
-    let inner = turns_below t m f old new (c.take_row.new.state.steps - c.args.state.now.steps) c.in-Some-below.below c.in-Some.after both last _ (c.read_next_leaves.new.state.steps - c.args.state.now.steps) (Some c.in-Some-2.inner)
+    let two = subst (λ (o : Option Frame). Turns t m c.in-Some-below.below new last (c.read_next_leaves.new.state.steps - c.pass_or_take_row.new.state.steps) (left_over o)) c.in-Some-2.is c.in_ok-inner.ensures.ok in
+    let inner = turns_below t m f old new (c.pass_or_take_row.new.state.steps - c.args.state.now.steps) c.in-Some-below.below c.in-Some.after both last _ (c.read_next_leaves.new.state.steps - c.args.state.now.steps) (Some c.in-Some-2.inner)
     (omega (arith, so_far, rises, on)) two in
     inner
 
@@ -352,17 +352,17 @@ returns-in-loop-turn-clause-rises c =
     let m = message c.args.self.now.decoder in
     let f = c.args.frame in
     let old = at_of c.args.state.now in
-    let new = at_of c.take_row.new.state in
+    let new = at_of c.pass_or_take_row.new.state in
     let so_far = c.loop-turn.invariant.steps in
     let rises = one_more _ _ _ c.in_ok-turn.ensures.spends in
-    let read = turn_on t m f c.loop-turn.rest old (at_of c.loop-turn.state) new c.args.state.now.steps c.loop-turn.state.steps c.take_row.new.state.steps c.in_ok-turn.turn c.loop-turn.invariant.turns so_far (omega (arith, rises))
+    let read = turn_on t m f c.loop-turn.rest old (at_of c.loop-turn.state) new c.args.state.now.steps c.loop-turn.state.steps c.pass_or_take_row.new.state.steps c.in_ok-turn.turn c.loop-turn.invariant.turns so_far (omega (arith, rises))
     c.in_ok-turn.ensures.ok in
     let turn : c.in_ok-turn.turn ≡ record { below = Some c.in-Some-below.below; rest = Some c.in-Some.after } = λ i. record { below = c.in-Some-below.is i; rest = c.in-Some.is i } in
-    let both = subst (λ (x : Turn). Turns t m f old new (c.take_row.new.state.steps - c.args.state.now.steps) x) turn read in
+    let both = subst (λ (x : Turn). Turns t m f old new (c.pass_or_take_row.new.state.steps - c.args.state.now.steps) x) turn read in
     let on = c.in_ok-inner.ensures.grows in
     let last = at_of c.read_next_leaves.new.state in
-    let two = subst (λ (o : Option Frame). Turns t m c.in-Some-below.below new last (c.read_next_leaves.new.state.steps - c.take_row.new.state.steps) (left_over o)) c.in-Some-2.is c.in_ok-inner.ensures.ok in
-    let inner = turns_below t m f old new (c.take_row.new.state.steps - c.args.state.now.steps) c.in-Some-below.below c.in-Some.after both last _ (c.read_next_leaves.new.state.steps - c.args.state.now.steps) (Some c.in-Some-2.inner)
+    let two = subst (λ (o : Option Frame). Turns t m c.in-Some-below.below new last (c.read_next_leaves.new.state.steps - c.pass_or_take_row.new.state.steps) (left_over o)) c.in-Some-2.is c.in_ok-inner.ensures.ok in
+    let inner = turns_below t m f old new (c.pass_or_take_row.new.state.steps - c.args.state.now.steps) c.in-Some-below.below c.in-Some.after both last _ (c.read_next_leaves.new.state.steps - c.args.state.now.steps) (Some c.in-Some-2.inner)
     (omega (arith, so_far, rises, on)) two in
     let less = inner.less in
     omega (arith, so_far, rises, on)
@@ -373,17 +373,17 @@ returns-in-loop-turn-clause-cost c =
     let m = message c.args.self.now.decoder in
     let f = c.args.frame in
     let old = at_of c.args.state.now in
-    let new = at_of c.take_row.new.state in
+    let new = at_of c.pass_or_take_row.new.state in
     let so_far = c.loop-turn.invariant.steps in
     let rises = one_more _ _ _ c.in_ok-turn.ensures.spends in
-    let read = turn_on t m f c.loop-turn.rest old (at_of c.loop-turn.state) new c.args.state.now.steps c.loop-turn.state.steps c.take_row.new.state.steps c.in_ok-turn.turn c.loop-turn.invariant.turns so_far (omega (arith, rises))
+    let read = turn_on t m f c.loop-turn.rest old (at_of c.loop-turn.state) new c.args.state.now.steps c.loop-turn.state.steps c.pass_or_take_row.new.state.steps c.in_ok-turn.turn c.loop-turn.invariant.turns so_far (omega (arith, rises))
     c.in_ok-turn.ensures.ok in
     let turn : c.in_ok-turn.turn ≡ record { below = Some c.in-Some-below.below; rest = Some c.in-Some.after } = λ i. record { below = c.in-Some-below.is i; rest = c.in-Some.is i } in
-    let both = subst (λ (x : Turn). Turns t m f old new (c.take_row.new.state.steps - c.args.state.now.steps) x) turn read in
+    let both = subst (λ (x : Turn). Turns t m f old new (c.pass_or_take_row.new.state.steps - c.args.state.now.steps) x) turn read in
     let on = c.in_ok-inner.ensures.grows in
     let last = at_of c.read_next_leaves.new.state in
-    let two = subst (λ (o : Option Frame). Turns t m c.in-Some-below.below new last (c.read_next_leaves.new.state.steps - c.take_row.new.state.steps) (left_over o)) c.in-Some-2.is c.in_ok-inner.ensures.ok in
-    let inner = turns_below t m f old new (c.take_row.new.state.steps - c.args.state.now.steps) c.in-Some-below.below c.in-Some.after both last _ (c.read_next_leaves.new.state.steps - c.args.state.now.steps) (Some c.in-Some-2.inner)
+    let two = subst (λ (o : Option Frame). Turns t m c.in-Some-below.below new last (c.read_next_leaves.new.state.steps - c.pass_or_take_row.new.state.steps) (left_over o)) c.in-Some-2.is c.in_ok-inner.ensures.ok in
+    let inner = turns_below t m f old new (c.pass_or_take_row.new.state.steps - c.args.state.now.steps) c.in-Some-below.below c.in-Some.after both last _ (c.read_next_leaves.new.state.steps - c.args.state.now.steps) (Some c.in-Some-2.inner)
     (omega (arith, so_far, rises, on)) two in
     let less = inner.less in
     omega (arith, less, so_far, rises, on)
