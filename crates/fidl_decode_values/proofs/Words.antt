@@ -1,6 +1,6 @@
 -- Words of bytes that are read as one number: the high bits of the bytes, an envelope's numbers, and
 -- a byte before zeros.
-use Rattle.std.proofs.Common.{◌≡◌, ℕ, ◌+◌, ◌/◌, ◌%◌, ◌<◌, ◌≤◌, ◌*◌, ◌^◌, List, [], ◌∷◌, length, get_or, inl, inr, refl, sym, ap, subst, ◌∙◌, arith}
+use Rattle.std.proofs.Common.{◌≡◌, ℕ, zero, suc, ◌+◌, ◌-◌, ◌/◌, ◌%◌, ◌<◌, ◌≤◌, ◌*◌, ◌^◌, List, [], ◌∷◌, length, get_or, inl, inr, refl, sym, ap, subst, ◌∙◌, arith}
 use Rattle.std.specs.Prelude.{min}
 use Rattle.std.specs.Int.{w16, w32, w64, to_le_bytes, bytes_low_first, bit_at}
 use Rattle.std.specs.Int.Bits.{bit_and}
@@ -93,6 +93,23 @@ module _ (m : List ℕ) (p : ℕ) (room : p + 8 ≤ length m) (small : (i : ℕ)
         let rest = behind.2.2 in
         number_16 m (p + 6) 0 (omega arith) (stands_to m (p + 4 + 1 + 1) (p + 6) (to_le_bytes w16 0) (omega arith) (rest.0, rest.1 ∙ omega (arith, few), (rest.2.0, rest.2.1 ∙ omega (arith, few), tt)))
 
+  -- the numbers of an envelope that holds a bool, and counts no handles, from all but its lowest bit
+  pub bool_numbers : number_at w64 m p / 2 ≡ 0x8000_0000_0000 → (handles_below m p ≡ 0) × (flags_at m p ≡ 1) × (bytes_below m p ≤ 1)
+  bool_numbers is =
+      let back : Stands m (p + 4) (bytes_low_first 4 4 n) = stands_back m p (to_le_bytes w32 n) (bytes_low_first 4 4 n) stands in
+      let front : Stands m p (to_le_bytes w32 n) = stands_front m p (to_le_bytes w32 n) (bytes_low_first 4 4 n) stands in
+      let a : n % 256 ≡ n % 2 % 256 = omega (arith, is) in
+      let b : n / 256 % 256 ≡ n % 2 / 256 % 256 = omega (arith, is) in
+      let d : n / 65536 % 256 ≡ n % 2 / 65536 % 256 = omega (arith, is) in
+      let e : n / 16777216 % 256 ≡ n % 2 / 16777216 % 256 = omega (arith, is) in
+      let low : to_le_bytes w32 n ≡ to_le_bytes w32 (n % 2) = (λ i. a i ∷ b i ∷ d i ∷ e i ∷ []) in
+      let counted : bytes_below m p ≡ n % 2 = number_32 m p (n % 2) (omega arith) (subst (λ (l : List ℕ). Stands m p l) low front) in
+      let rest = back.2.2 in (
+        number_16 m (p + 4) 0 (omega arith) (back.0, back.1 ∙ omega (arith, is), (back.2.0, back.2.1 ∙ omega (arith, is), tt)),
+        number_16 m (p + 6) 1 (omega arith) (stands_to m (p + 4 + 1 + 1) (p + 6) (to_le_bytes w16 1) (omega arith) (rest.0, rest.1 ∙ omega (arith, is), (rest.2.0, rest.2.1 ∙ omega (arith, is), tt))),
+        omega (arith, counted),
+      )
+
   -- the numbers of an envelope that holds its member, and counts no handles
   pub inside_numbers : number_at w32 m (p + 4) ≡ 0x1_0000 → (handles_below m p ≡ 0) × (flags_at m p ≡ 1)
   inside_numbers is =
@@ -111,6 +128,15 @@ short_byte n lt =
     let c : n / 16777216 % 256 ≡ 0 = omega arith in
     λ i. own i ∷ a i ∷ b i ∷ c i ∷ []
 
+-- bytes of a number of four bytes that has nothing from so many bytes on
+zero_tail : (m : List ℕ) (p w : ℕ) → Stands m p (to_le_bytes w32 w) → (size : ℕ) → size ≤ 4 → w / 2 ^ (8 * size) ≡ 0 → Stands m (p + size) (zeros (4 - size))
+zero_tail m p w s zero le z = stands_to m p (p + 0) (zeros 4) (omega arith) (s.0, s.1 ∙ omega (arith, z), (s.2.0, s.2.1 ∙ omega (arith, z), (s.2.2.0, s.2.2.1 ∙ omega (arith, z), (s.2.2.2.0, s.2.2.2.1 ∙ omega (arith, z), tt))))
+zero_tail m p w s (suc zero) le z = (s.2.0, s.2.1 ∙ omega (arith, z), (s.2.2.0, s.2.2.1 ∙ omega (arith, z), (s.2.2.2.0, s.2.2.2.1 ∙ omega (arith, z), tt)))
+zero_tail m p w s (suc (suc zero)) le z = stands_to m (p + 1 + 1) (p + 2) (zeros 2) (omega arith) (s.2.2.0, s.2.2.1 ∙ omega (arith, z), (s.2.2.2.0, s.2.2.2.1 ∙ omega (arith, z), tt))
+zero_tail m p w s (suc (suc (suc zero))) le z = stands_to m (p + 1 + 1 + 1) (p + 3) (zeros 1) (omega arith) (s.2.2.2.0, s.2.2.2.1 ∙ omega (arith, z), tt)
+zero_tail m p w s (suc (suc (suc (suc zero)))) le z = tt
+zero_tail m p w s (suc (suc (suc (suc (suc more))))) le z = absurd (omega (arith, le))
+
 module _ (m : List ℕ) (p : ℕ) (small : (i : ℕ) → get_or m i 0 < 256) where
   -- a number of four bytes that is below 256 is that of the first, and the others are zeros
   pub byte_below : p + 4 ≤ length m → (n : ℕ) → number_at w32 m p ≡ n → n < 256 → (get_or m p 0 ≡ n) × Stands m (p + 1) (zeros 3)
@@ -118,3 +144,9 @@ module _ (m : List ℕ) (p : ℕ) (small : (i : ℕ) → get_or m i 0 < 256) whe
       let all : Stands m p (to_le_bytes w32 n) = subst (λ k. Stands m p (to_le_bytes w32 k)) is (standing uint32 m p room small).1 in
       let parts : Stands m p (n ∷ zeros 3) = subst (λ (l : List ℕ). Stands m p l) (short_byte n lt) all in
       (parts.1, parts.2)
+
+  -- nothing stands behind so many bytes of a number of four
+  pub zeros_behind : p + 4 ≤ length m → (size : ℕ) → size ≤ 4 → number_at w32 m p / 2 ^ (8 * size) ≡ 0 → Stands m (p + size) (zeros (p + 4 - (p + size)))
+  zeros_behind room size le z =
+      let same : 4 - size ≡ p + 4 - (p + size) = omega arith in
+      subst (λ k. Stands m (p + size) (zeros k)) same (zero_tail m p (number_at w32 m p) (standing uint32 m p room small).1 size le z)

@@ -22,6 +22,10 @@ use fidl_wire::MAX_DEPTH;
 /// The last four bytes of an envelope that counts no handles and holds its member, as one number.
 const NO_HANDLES_INSIDE: u32 = 0x1_0000;
 
+/// An envelope that holds a bool and counts no handles, as one number without its lowest bit, which
+/// is the bool.
+const BOOL_INSIDE: u64 = 0x8000_0000_0000;
+
 impl<'t, 'm, 's> Decoder<'t, 'm, 's> {
     /// Passes over the envelope at a place, in which a member of this size stands that any bytes
     /// are a value of, where its numbers and the bytes behind the member are right. Else nothing is
@@ -57,7 +61,8 @@ impl<'t, 'm, 's> Decoder<'t, 'm, 's> {
         if self.u32_at(envelope + 4, state) != NO_HANDLES_INSIDE {
             return false;
         }
-        if self.zeros_at(envelope + size, envelope + 4, state).is_err() {
+        // No byte behind the member's.
+        if u64::from(self.u32_at(envelope, state)) >> (8 * size) != 0 {
             return false;
         }
         state.links.link_inside(envelope, state.handle);
@@ -124,10 +129,7 @@ impl<'t, 'm, 's> Decoder<'t, 'm, 's> {
         ensures grows { state.old.steps ≤ state.new.steps }
         ensures pays { state.new.steps + state.old.next ≤ state.old.steps + state.new.next }
     {
-        if self.u32_at(envelope + 4, state) != NO_HANDLES_INSIDE {
-            return false;
-        }
-        if self.byte_count_at(envelope, state) > 1 {
+        if self.u64_at(envelope, state) / 2 != BOOL_INSIDE {
             return false;
         }
         state.links.link_inside(envelope, state.handle);
