@@ -9,6 +9,7 @@ use Rattle.fidl_table_format.specs.WellFormed.{WellFormed}
 use Rattle.fidl_decode_model.specs.declared.frame.Frame.{Frame}
 use Rattle.fidl_decode_model.specs.declared.frame.Remaining.TheVariants.{Elements, Envelopes}
 use Rattle.fidl_decode_values.specs.declared.body.TableBody.{TableBody}
+use Rattle.fidl_decode_values.specs.declared.body.Cursor.{Cursor}
 use Rattle.fidl_decode_values.specs.declared.body.Passing.{Passing}
 use Rattle.fidl_decode_values.specs.declared.body.Passing.TheVariants.{Inside, Below}
 use Rattle.fidl_decode_model.specs.Invariants.{is_free}
@@ -24,6 +25,10 @@ pub record BodyFine (t : List ℕ) (b : TableBody) : Type 0 where
   pub rows : b.rows ≡ row_place (header_of t) (entry_at t b.entry).first
   pub known : b.known ≤ (entry_at t b.entry).count
   pub few : b.known ≤ b.count
+
+-- the cursor notes where the row of the next envelope stands, where no ordinal below it is missing
+abbrev pub IsNext : TableBody → Cursor → Type 0
+IsNext b at = at.row ≡ b.rows + 16 * at.read
 
 -- the frame of so many envelopes of a value of an entry, of which these are read
 abbrev pub envelopes_behind : (entry base count depth read : ℕ) → Frame

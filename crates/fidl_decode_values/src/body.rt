@@ -7,7 +7,7 @@ ghost use Rattle.fidl_wire.specs.Term.{find};
 ghost use Rattle.fidl_table_format.specs.Kind.{kind_of};
 ghost use Rattle.fidl_table_format.specs.Section.{header_of, entry_at, row_at};
 ghost use Rattle.fidl_table_format.specs.Terms.{members_of};
-ghost use Rattle.fidl_decode_values.specs.Body.{BodyFine, IsPassing, rest_of, envelopes_of};
+ghost use Rattle.fidl_decode_values.specs.Body.{BodyFine, IsNext, IsPassing, rest_of, envelopes_of};
 ghost use Rattle.fidl_decode_values.specs.Body.{envelopes_behind};
 ghost use Rattle.fidl_decode_model.specs.Machine.{StateFine, FrameFine, Turns, at_of};
 ghost use Rattle.fidl_decode_values.specs.Reading.{came, message, Holds};
@@ -33,6 +33,14 @@ pub(crate) struct TableBody<'t> {
     pub depth: u8,
 }
 
+/// How far the envelopes are read: how many are, and where the row of the next stands in the table
+/// where no ordinal below it is missing, in bytes.
+#[derive(Clone, Copy, Drop)]
+pub(crate) struct Cursor {
+    pub read: u32,
+    pub row: usize,
+}
+
 /// How numbers of one type are passed over.
 #[derive(Clone, Copy, Drop)]
 pub(crate) enum Passing {
@@ -45,14 +53,30 @@ pub(crate) enum Passing {
 impl<'t> TableBody<'t> {
     /// The row of the next envelope, where no ordinal below it is missing.
     #[inline(always)]
-    fn row(&self, read: u32) -> Row
+    fn row(&self, at: Cursor) -> Row
         requires body { BodyFine self.now.table.now self.now }
-        requires more { read < self.now.known }
+        requires more { at.read < self.now.known }
+        requires at { IsNext self.now at }
         ensures value { let t = self.now.table.now in
-            result ≡ row_at t (header_of t) ((entry_at t self.now.entry).first + read) }
+            result ≡ row_at t (header_of t) ((entry_at t self.now.entry).first + at.read) }
         ensures entry { result.entry < (header_of self.now.table.now).entries }
     {
-        row_from(self.table, self.rows + 16 * read as usize)
+        row_from(self.table, at.row)
+    }
+
+    /// The cursor behind the next envelope.
+    #[inline(always)]
+    fn behind(&self, at: Cursor) -> Cursor
+        requires body { BodyFine self.now.table.now self.now }
+        requires more { at.read < self.now.known }
+        requires at { IsNext self.now at }
+        ensures read { result.read ≡ at.read + 1 }
+        ensures at { IsNext self.now result }
+    {
+        Cursor {
+            read: at.read + 1,
+            row: at.row + 16,
+        }
     }
 
     /// The number of an entry's kind.
@@ -96,34 +120,35 @@ impl<'t, 'm, 's> Decoder<'t, 'm, 's> {
     fn pass_next(
         &self,
         body: &TableBody<'_>,
-        read: u32,
+        at: Cursor,
         entry: u32,
         how: Passing,
         state: &mut State<'_, '_>,
     ) -> bool
         requires body { BodyFine self.now.table.now body.now }
-        requires more { read < body.now.known }
+        requires more { at.read < body.now.known }
+        requires at { IsNext body.now at }
         requires entry { entry < (header_of self.now.table.now).entries }
         requires how { IsPassing self.now.table.now entry how }
-        requires frame { FrameFine self.now.table.now (came self.now) (rest_of body.now read) }
+        requires frame { FrameFine self.now.table.now (came self.now) (rest_of body.now at.read) }
         requires holds { Holds self.now state.old }
         requires state { StateFine (message self.now) (at_of state.old) }
-        requires ready { CanReadFrame self.now state.old (rest_of body.now read) }
+        requires ready { CanReadFrame self.now state.old (rest_of body.now at.read) }
         requires budget { state.old.steps < 2 ^ 43 }
         ensures holds { Holds self.now state.new }
         ensures passed { IsTrue result → Turns self.now.table.now
-            (message self.now) (rest_of body.now read)
+            (message self.now) (rest_of body.now at.read)
             (at_of state.old) (at_of state.new) (state.new.steps + 1 - state.old.steps)
-            (record { below = None; rest = Some (rest_of body.now (read + 1)) }) }
+            (record { below = None; rest = Some (rest_of body.now (at.read + 1)) }) }
         ensures kept { IsFalse result → at_of state.new ≡ at_of state.old }
         ensures grows { state.old.steps ≤ state.new.steps }
         ensures pays { state.new.steps + state.old.next ≤ state.old.steps + state.new.next }
     {
-        let row = body.row(read);
-        if row.key != read + 1 || row.entry != entry {
+        let row = body.row(at);
+        if row.entry != entry || row.key != at.read + 1 {
             return false;
         }
-        let place = body.base + 8 * read as usize;
+        let place = body.base + 8 * at.read as usize;
         match how {
             Passing::Inside => self.pass_inside(entry, 4, place, body.depth, state),
             Passing::Below => self.pass_below(entry, place, body.depth, state),
@@ -136,36 +161,38 @@ impl<'t, 'm, 's> Decoder<'t, 'm, 's> {
     fn pass_run(
         &self,
         body: &TableBody<'_>,
-        from: u32,
+        from: Cursor,
         entry: u32,
         how: Passing,
         state: &mut State<'_, '_>,
-    ) -> u32
+    ) -> Cursor
         requires body { BodyFine self.now.table.now body.now }
-        requires more { from ≤ body.now.known }
+        requires more { from.read ≤ body.now.known }
+        requires at { IsNext body.now from }
         requires entry { entry < (header_of self.now.table.now).entries }
         requires how { IsPassing self.now.table.now entry how }
-        requires frame { FrameFine self.now.table.now (came self.now) (rest_of body.now from) }
+        requires frame { FrameFine self.now.table.now (came self.now) (rest_of body.now from.read) }
         requires holds { Holds self.now state.old }
         requires state { StateFine (message self.now) (at_of state.old) }
-        requires ready { CanReadFrame self.now state.old (rest_of body.now from) }
+        requires ready { CanReadFrame self.now state.old (rest_of body.now from.read) }
         requires budget { state.old.steps < 2 ^ 42 }
         ensures holds { Holds self.now state.new }
         ensures turns { Turns self.now.table.now
-            (message self.now) (rest_of body.now from)
+            (message self.now) (rest_of body.now from.read)
             (at_of state.old) (at_of state.new)
-            (state.new.steps + (result - from) - state.old.steps)
-            (record { below = None; rest = Some (rest_of body.now result) }) }
-        ensures order { from ≤ result }
-        ensures few { result ≤ body.now.known }
+            (state.new.steps + (result.read - from.read) - state.old.steps)
+            (record { below = None; rest = Some (rest_of body.now result.read) }) }
+        ensures order { from.read ≤ result.read }
+        ensures few { result.read ≤ body.now.known }
+        ensures at { IsNext body.now result }
         ensures grows { state.old.steps ≤ state.new.steps }
         ensures pays { state.new.steps + state.old.next ≤ state.old.steps + state.new.next }
     {
-        let mut read = from;
-        while read != body.known && self.pass_next(body, read, entry, how, state) {
-            read += 1;
+        let mut at = from;
+        while at.read != body.known && self.pass_next(body, at, entry, how, state) {
+            at = body.behind(at);
         }
-        read
+        at
     }
 
     /// Passes over the next envelope, whose member is of this entry and kind, and answers how many
@@ -174,36 +201,38 @@ impl<'t, 'm, 's> Decoder<'t, 'm, 's> {
     fn pass_one(
         &self,
         body: &TableBody<'_>,
-        from: u32,
+        from: Cursor,
         entry: u32,
         kind: EntryKind,
         state: &mut State<'_, '_>,
-    ) -> u32
+    ) -> Cursor
         requires body { BodyFine self.now.table.now body.now }
-        requires more { from < body.now.known }
-        requires found { find (members_of self.now.table.now body.now.entry) (from + 1)
+        requires more { from.read < body.now.known }
+        requires at { IsNext body.now from }
+        requires found { find (members_of self.now.table.now body.now.entry) (from.read + 1)
             ≡ Some (ty.named entry) }
         requires entry { entry < (header_of self.now.table.now).entries }
         requires kind { kind_of (entry_at self.now.table.now entry).kind ≡ Some kind }
-        requires frame { FrameFine self.now.table.now (came self.now) (rest_of body.now from) }
+        requires frame { FrameFine self.now.table.now (came self.now) (rest_of body.now from.read) }
         requires holds { Holds self.now state.old }
         requires state { StateFine (message self.now) (at_of state.old) }
-        requires ready { CanReadFrame self.now state.old (rest_of body.now from) }
+        requires ready { CanReadFrame self.now state.old (rest_of body.now from.read) }
         requires budget { state.old.steps < 2 ^ 42 }
         ensures holds { Holds self.now state.new }
         ensures turns { Turns self.now.table.now
-            (message self.now) (rest_of body.now from)
+            (message self.now) (rest_of body.now from.read)
             (at_of state.old) (at_of state.new)
-            (state.new.steps + (result - from) - state.old.steps)
-            (record { below = None; rest = Some (rest_of body.now result) }) }
-        ensures order { from ≤ result }
-        ensures few { result ≤ body.now.known }
+            (state.new.steps + (result.read - from.read) - state.old.steps)
+            (record { below = None; rest = Some (rest_of body.now result.read) }) }
+        ensures order { from.read ≤ result.read }
+        ensures few { result.read ≤ body.now.known }
+        ensures at { IsNext body.now result }
         ensures grows { state.old.steps ≤ state.new.steps }
         ensures pays { state.new.steps + state.old.next ≤ state.old.steps + state.new.next }
     {
-        let place = body.base + 8 * from as usize;
+        let place = body.base + 8 * from.read as usize;
         if self.pass_kind(entry, kind, place, body.depth, state) {
-            return from + 1;
+            return body.behind(from);
         }
         from
     }
@@ -211,27 +240,29 @@ impl<'t, 'm, 's> Decoder<'t, 'm, 's> {
     /// Passes over the next envelopes with members of one entry, and answers how many are read
     /// then. The steps, one for each, are not counted yet.
     #[inline(always)]
-    fn pass_alike(&self, body: &TableBody<'_>, from: u32, state: &mut State<'_, '_>) -> u32
+    fn pass_alike(&self, body: &TableBody<'_>, from: Cursor, state: &mut State<'_, '_>) -> Cursor
         requires body { BodyFine self.now.table.now body.now }
-        requires more { from < body.now.known }
-        requires frame { FrameFine self.now.table.now (came self.now) (rest_of body.now from) }
+        requires more { from.read < body.now.known }
+        requires at { IsNext body.now from }
+        requires frame { FrameFine self.now.table.now (came self.now) (rest_of body.now from.read) }
         requires holds { Holds self.now state.old }
         requires state { StateFine (message self.now) (at_of state.old) }
-        requires ready { CanReadFrame self.now state.old (rest_of body.now from) }
+        requires ready { CanReadFrame self.now state.old (rest_of body.now from.read) }
         requires budget { state.old.steps < 2 ^ 42 }
         ensures holds { Holds self.now state.new }
         ensures turns { Turns self.now.table.now
-            (message self.now) (rest_of body.now from)
+            (message self.now) (rest_of body.now from.read)
             (at_of state.old) (at_of state.new)
-            (state.new.steps + (result - from) - state.old.steps)
-            (record { below = None; rest = Some (rest_of body.now result) }) }
-        ensures order { from ≤ result }
-        ensures few { result ≤ body.now.known }
+            (state.new.steps + (result.read - from.read) - state.old.steps)
+            (record { below = None; rest = Some (rest_of body.now result.read) }) }
+        ensures order { from.read ≤ result.read }
+        ensures few { result.read ≤ body.now.known }
+        ensures at { IsNext body.now result }
         ensures grows { state.old.steps ≤ state.new.steps }
         ensures pays { state.new.steps + state.old.next ≤ state.old.steps + state.new.next }
     {
         let row = body.row(from);
-        if row.key != from + 1 {
+        if row.key != from.read + 1 {
             return from;
         }
         let entry = row.entry;
@@ -252,27 +283,29 @@ impl<'t, 'm, 's> Decoder<'t, 'm, 's> {
     /// Passes over the next envelopes: one that is absent, or those with members of one entry;
     /// answers how many are read then. The steps, one for each, are not counted yet.
     #[inline(always)]
-    fn pass_some(&self, body: &TableBody<'_>, from: u32, state: &mut State<'_, '_>) -> u32
+    fn pass_some(&self, body: &TableBody<'_>, from: Cursor, state: &mut State<'_, '_>) -> Cursor
         requires body { BodyFine self.now.table.now body.now }
-        requires more { from < body.now.known }
-        requires frame { FrameFine self.now.table.now (came self.now) (rest_of body.now from) }
+        requires more { from.read < body.now.known }
+        requires at { IsNext body.now from }
+        requires frame { FrameFine self.now.table.now (came self.now) (rest_of body.now from.read) }
         requires holds { Holds self.now state.old }
         requires state { StateFine (message self.now) (at_of state.old) }
-        requires ready { CanReadFrame self.now state.old (rest_of body.now from) }
+        requires ready { CanReadFrame self.now state.old (rest_of body.now from.read) }
         requires budget { state.old.steps < 2 ^ 42 }
         ensures holds { Holds self.now state.new }
         ensures turns { Turns self.now.table.now
-            (message self.now) (rest_of body.now from)
+            (message self.now) (rest_of body.now from.read)
             (at_of state.old) (at_of state.new)
-            (state.new.steps + (result - from) - state.old.steps)
-            (record { below = None; rest = Some (rest_of body.now result) }) }
-        ensures order { from ≤ result }
-        ensures few { result ≤ body.now.known }
+            (state.new.steps + (result.read - from.read) - state.old.steps)
+            (record { below = None; rest = Some (rest_of body.now result.read) }) }
+        ensures order { from.read ≤ result.read }
+        ensures few { result.read ≤ body.now.known }
+        ensures at { IsNext body.now result }
         ensures grows { state.old.steps ≤ state.new.steps }
         ensures pays { state.new.steps + state.old.next ≤ state.old.steps + state.new.next }
     {
-        if self.is_absent(body.base + 8 * from as usize, state) {
-            return from + 1;
+        if self.is_absent(body.base + 8 * from.read as usize, state) {
+            return body.behind(from);
         }
         self.pass_alike(body, from, state)
     }
@@ -298,16 +331,19 @@ impl<'t, 'm, 's> Decoder<'t, 'm, 's> {
     {
         // A copy, so that writing a link is known to leave it.
         let own = *body;
-        let mut from = 0;
-        while from != own.known {
-            let read = self.pass_some(&own, from, state);
-            if read == from {
+        let mut at = Cursor {
+            read: 0,
+            row: own.rows,
+        };
+        while at.read != own.known {
+            let next = self.pass_some(&own, at, state);
+            if next.read == at.read {
                 break;
             }
-            from = read;
+            at = next;
         }
-        state.steps += u64::from(from);
-        from
+        state.steps += u64::from(at.read);
+        at.read
     }
 
     /// Passes over the first of so many envelopes of a value of a table entry, from a place on, and

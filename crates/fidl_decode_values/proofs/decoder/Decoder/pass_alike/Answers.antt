@@ -46,12 +46,13 @@ pass_one-requires c =
     let e = c.row-row.result.entry in
     let number : c.kind_of.result ≡ (entry_at t e).kind = c.kind_of.ensures ∙ ap (λ (u : List ℕ). (entry_at u e).kind) c.requires.body.table in
     let is : kind_of (entry_at t e).kind ≡ Some c.in-Some.kind = ap kind_of (sym number) ∙ sym c.from_number.ensures ∙ c.in-Some.is in
-    let found = body_found t c.args.body.now c.requires.body c.args.from c.requires.more c.row-row.result c.row-row.ensures.value c.if-row-from.false in
+    let found = body_found t c.args.body.now c.requires.body c.args.from.read c.requires.more c.row-row.result c.row-row.ensures.value c.if-row-from.false in
     record {
       holds = c.requires.holds;
       body = c.requires.body;
       more = c.requires.more;
-      found = ap (λ n. find (members_of t c.args.body.now.entry) n) (add-one c.args.from) ∙ found;
+      at = c.requires.at;
+      found = ap (λ n. find (members_of t c.args.body.now.entry) n) (add-one c.args.from.read) ∙ found;
       entry = subst (λ u. e < (header_of u).entries) c.requires.body.table c.row-row.ensures.entry;
       kind = is;
       frame = c.requires.frame;
@@ -144,4 +145,4 @@ unreachable-requires c =
     c.in_default.not-Some fine.0 (c.from_number.ensures ∙ ap kind_of number ∙ fine.1.is)
 
 pub returns-then-row-from-clause-turns : goal.returns-then-row-from-clause-turns
-returns-then-row-from-clause-turns c = turns_stay c.args.self.now.table.now (message c.args.self.now) (rest_of c.args.body.now c.args.from) (at_of c.args.state.now) c.requires.frame c.requires.state _ (omega arith)
+returns-then-row-from-clause-turns c = turns_stay c.args.self.now.table.now (message c.args.self.now) (rest_of c.args.body.now c.args.from.read) (at_of c.args.state.now) c.requires.frame c.requires.state _ (omega arith)

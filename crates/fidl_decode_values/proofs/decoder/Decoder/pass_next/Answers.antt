@@ -19,14 +19,14 @@ returns-in-Inside-clause-passed c =
     let t = c.args.self.now.table.now in
     let m = message c.args.self.now in
     let old = at_of c.args.state.now in
-    let found = body_found t c.args.body.now c.requires.body c.args.read c.requires.more c.row-row.result c.row-row.ensures.value c.if-row-read.false in
+    let found = body_found t c.args.body.now c.requires.body c.args.at.read c.requires.more c.row-row.result c.row-row.ensures.value c.if-row-at.false in
     let few = c.requires.body.few in
     let more = c.requires.more in
-    next_passed t c.args.self.now.fine m (c.args.self.now.short, c.requires.state.few) c.args.body.now c.args.read old c.requires.frame
+    next_passed t c.args.self.now.fine m (c.args.self.now.short, c.requires.state.few) c.args.body.now c.args.at.read old c.requires.frame
     c.requires.state (omega (arith, few, more)) c.row-row.result.entry found (at_of c.pass_inside.new.state)
     (c.pass_inside.new.state.steps - c.args.state.now.steps) (c.pass_inside.new.state.steps + 1 - c.args.state.now.steps)
     (omega (arith, c.pass_inside.ensures.steps)) (omega arith) (omega (arith, c.pass_inside.ensures.steps, c.pass_inside.ensures.grows))
-    (subst (λ e. Opens t m c.args.body.now.depth (Some (ty.named e)) (c.args.body.now.base + 8 * c.args.read) old (at_of c.pass_inside.new.state) (c.pass_inside.new.state.steps - c.args.state.now.steps) None) (sym c.if-row-entry.false) (c.pass_inside.ensures.passed so))
+    (subst (λ e. Opens t m c.args.body.now.depth (Some (ty.named e)) (c.args.body.now.base + 8 * c.args.at.read) old (at_of c.pass_inside.new.state) (c.pass_inside.new.state.steps - c.args.state.now.steps) None) (sym c.if-row-entry.false) (c.pass_inside.ensures.passed so))
 
 pub returns-in-Below-clause-passed : goal.returns-in-Below-clause-passed
 returns-in-Below-clause-passed c =
@@ -34,29 +34,29 @@ returns-in-Below-clause-passed c =
     let t = c.args.self.now.table.now in
     let m = message c.args.self.now in
     let old = at_of c.args.state.now in
-    let found = body_found t c.args.body.now c.requires.body c.args.read c.requires.more c.row-row.result c.row-row.ensures.value c.if-row-read.false in
+    let found = body_found t c.args.body.now c.requires.body c.args.at.read c.requires.more c.row-row.result c.row-row.ensures.value c.if-row-at.false in
     let few = c.requires.body.few in
     let more = c.requires.more in
-    next_passed t c.args.self.now.fine m (c.args.self.now.short, c.requires.state.few) c.args.body.now c.args.read old c.requires.frame
+    next_passed t c.args.self.now.fine m (c.args.self.now.short, c.requires.state.few) c.args.body.now c.args.at.read old c.requires.frame
     c.requires.state (omega (arith, few, more)) c.row-row.result.entry found (at_of c.pass_below.new.state)
     (c.pass_below.new.state.steps - c.args.state.now.steps) (c.pass_below.new.state.steps + 1 - c.args.state.now.steps)
     (omega (arith, c.pass_below.ensures.steps)) (omega arith) (omega (arith, c.pass_below.ensures.steps, c.pass_below.ensures.grows))
-    (subst (λ e. Opens t m c.args.body.now.depth (Some (ty.named e)) (c.args.body.now.base + 8 * c.args.read) old (at_of c.pass_below.new.state) (c.pass_below.new.state.steps - c.args.state.now.steps) None) (sym c.if-row-entry.false) (c.pass_below.ensures.passed so))
+    (subst (λ e. Opens t m c.args.body.now.depth (Some (ty.named e)) (c.args.body.now.base + 8 * c.args.at.read) old (at_of c.pass_below.new.state) (c.pass_below.new.state.steps - c.args.state.now.steps) None) (sym c.if-row-entry.false) (c.pass_below.ensures.passed so))
 
 pub row-row-requires-clause-more : goal.row-row-requires-clause-more
 row-row-requires-clause-more c = c.requires.more
 
-pub returns-then-row-read-clause-passed : goal.returns-then-row-read-clause-passed
-returns-then-row-read-clause-passed c so = absurd (no_true so)
+pub returns-then-row-entry-clause-passed : goal.returns-then-row-entry-clause-passed
+returns-then-row-entry-clause-passed c so = absurd (no_true so)
 
-pub returns-then-row-read-clause-kept : goal.returns-then-row-read-clause-kept
-returns-then-row-read-clause-kept c kept = refl
+pub returns-then-row-entry-clause-kept : goal.returns-then-row-entry-clause-kept
+returns-then-row-entry-clause-kept c kept = refl
 
-pub returns-then-row-read-clause-grows : goal.returns-then-row-read-clause-grows
-returns-then-row-read-clause-grows c = same_le _
+pub returns-then-row-entry-clause-grows : goal.returns-then-row-entry-clause-grows
+returns-then-row-entry-clause-grows c = same_le _
 
-pub returns-then-row-read-clause-pays : goal.returns-then-row-read-clause-pays
-returns-then-row-read-clause-pays c = same_le _
+pub returns-then-row-entry-clause-pays : goal.returns-then-row-entry-clause-pays
+returns-then-row-entry-clause-pays c = same_le _
 
 pub pass_inside-requires-clause-entry : goal.pass_inside-requires-clause-entry
 pass_inside-requires-clause-entry c = c.requires.entry
@@ -94,7 +94,7 @@ pass_inside-requires-clause-ready c =
     let m = message c.args.self.now in
     let old = at_of c.args.state.now in
     let body = c.args.body.now in
-    slot_ready t m old (rest_of body c.args.read) body.entry c.args.read (body.count - c.args.read) refl (omega (arith, c.requires.body.few, c.requires.more)) c.requires.frame c.requires.ready
+    slot_ready t m old (rest_of body c.args.at.read) body.entry c.args.at.read (body.count - c.args.at.read) refl (omega (arith, c.requires.body.few, c.requires.more)) c.requires.frame c.requires.ready
 
 pub pass_below-requires-clause-ready : goal.pass_below-requires-clause-ready
 pass_below-requires-clause-ready c =
@@ -102,4 +102,4 @@ pass_below-requires-clause-ready c =
     let m = message c.args.self.now in
     let old = at_of c.args.state.now in
     let body = c.args.body.now in
-    slot_ready t m old (rest_of body c.args.read) body.entry c.args.read (body.count - c.args.read) refl (omega (arith, c.requires.body.few, c.requires.more)) c.requires.frame c.requires.ready
+    slot_ready t m old (rest_of body c.args.at.read) body.entry c.args.at.read (body.count - c.args.at.read) refl (omega (arith, c.requires.body.few, c.requires.more)) c.requires.frame c.requires.ready

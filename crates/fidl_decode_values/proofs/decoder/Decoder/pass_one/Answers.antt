@@ -1,5 +1,5 @@
 use Rattle.fidl_decode_values.specs.Reading.{message}
-use Rattle.fidl_decode_values.proofs.Fitting.{le_more, budget_44}
+use Rattle.fidl_decode_values.proofs.Fitting.{budget_44}
 use Rattle.fidl_decode_values.proofs.Unchanged.{same_le}
 use Rattle.std.proofs.Common.{◌≡◌, ◌+◌, ◌-◌, sym, ap, subst, ◌∙◌, add-one, arith, refl}
 use Rattle.std.specs.Prelude.{Some}
@@ -22,11 +22,12 @@ returns-then-pass_kind-clause-turns c =
     let new = c.pass_kind.new.state in
     let few = c.requires.body.few in
     let more = c.requires.more in
-    let found = ap (λ n. find (members_of t body.entry) n) (sym (add-one c.args.from)) ∙ c.requires.found in
-    next_passed t c.args.self.now.fine m (c.args.self.now.short, c.requires.state.few) body c.args.from (at_of old) c.requires.frame c.requires.state
-    (omega (arith, few, more)) c.args.entry found (at_of new) (new.steps - old.steps) (new.steps + (c.args.from + 1 - c.args.from) - old.steps)
+    let found = ap (λ n. find (members_of t body.entry) n) (sym (add-one c.args.from.read)) ∙ c.requires.found in
+    subst (λ r. Turns t m (rest_of body c.args.from.read) (at_of old) (at_of new) (new.steps + (r - c.args.from.read) - old.steps) (left_over (Some (rest_of body r)))) (sym c.behind.ensures.read)
+    (next_passed t c.args.self.now.fine m (c.args.self.now.short, c.requires.state.few) body c.args.from.read (at_of old) c.requires.frame c.requires.state
+    (omega (arith, few, more)) c.args.entry found (at_of new) (new.steps - old.steps) (new.steps + (c.args.from.read + 1 - c.args.from.read) - old.steps)
     (omega (arith, c.pass_kind.ensures.grows)) (omega arith) (omega (arith, c.pass_kind.ensures.pays, c.pass_kind.ensures.grows))
-    (c.pass_kind.ensures.passed c.if-pass_kind.true)
+    (c.pass_kind.ensures.passed c.if-pass_kind.true))
 
 pub pass_kind-requires-clause-entry : goal.pass_kind-requires-clause-entry
 pass_kind-requires-clause-entry c = c.requires.entry
@@ -41,7 +42,7 @@ pub returns-clause-order : goal.returns-clause-order
 returns-clause-order c = same_le _
 
 pub returns-then-pass_kind-clause-order : goal.returns-then-pass_kind-clause-order
-returns-then-pass_kind-clause-order c = le_more _ _
+returns-then-pass_kind-clause-order c = omega (arith, c.behind.ensures.read)
 
 pub returns-then-pass_kind-clause-grows : goal.returns-then-pass_kind-clause-grows
 returns-then-pass_kind-clause-grows c = c.pass_kind.ensures.grows
@@ -62,10 +63,10 @@ pub returns-clause-turns : goal.returns-clause-turns
 returns-clause-turns c =
     let t = c.args.self.now.table.now in
     let m = message c.args.self.now in
-    let f = rest_of c.args.body.now c.args.from in
+    let f = rest_of c.args.body.now c.args.from.read in
     let kept : at_of c.pass_kind.new.state ≡ at_of c.args.state.now = c.pass_kind.ensures.kept c.if-pass_kind.false in
     let next : c.pass_kind.new.state.next ≡ c.args.state.now.next = ap (λ (s : Position). s.next) kept in
-    subst (λ (s : Position). Turns t m f (at_of c.args.state.now) s (c.pass_kind.new.state.steps + (c.args.from - c.args.from) - c.args.state.now.steps) (left_over (Some f))) (sym kept)
+    subst (λ (s : Position). Turns t m f (at_of c.args.state.now) s (c.pass_kind.new.state.steps + (c.args.from.read - c.args.from.read) - c.args.state.now.steps) (left_over (Some f))) (sym kept)
     (turns_stay t m f (at_of c.args.state.now) c.requires.frame c.requires.state _ (omega (arith, next, c.pass_kind.ensures.grows, c.pass_kind.ensures.pays)))
 
 pub pass_kind-requires-clause-ready : goal.pass_kind-requires-clause-ready
@@ -74,4 +75,4 @@ pass_kind-requires-clause-ready c =
     let m = message c.args.self.now in
     let old = at_of c.args.state.now in
     let body = c.args.body.now in
-    slot_ready t m old (rest_of body c.args.from) body.entry c.args.from (body.count - c.args.from) refl (omega (arith, c.requires.body.few, c.requires.more)) c.requires.frame c.requires.ready
+    slot_ready t m old (rest_of body c.args.from.read) body.entry c.args.from.read (body.count - c.args.from.read) refl (omega (arith, c.requires.body.few, c.requires.more)) c.requires.frame c.requires.ready
