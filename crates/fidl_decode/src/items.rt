@@ -161,6 +161,7 @@ impl<'t, 'm, 's> Frames<'t, 'm, 's> {
         for i in 0..count {
             let place = own.base as usize + done;
             state.steps += 1;
+            done += size;
             let found = self.read_element::<TABLES>(
                 entry,
                 place,
@@ -168,7 +169,6 @@ impl<'t, 'm, 's> Frames<'t, 'm, 's> {
                 own.in_envelope,
                 state,
             )?;
-            done += size;
             if let Some(inner) = found {
                 return Ok(Turn {
                     below: Some(inner),

@@ -44,7 +44,7 @@ impl<'t, 'm, 's> Decoder<'t, 'm, 's> {
 
     /// Passes over the envelope at a place, whose member is a struct of numbers, of which any bytes
     /// are a value, where its numbers are right. Else nothing is read.
-    #[inline(never)]
+    #[inline(always)]
     pub(crate) fn pass_struct(
         &self,
         entry: u32,

@@ -81,11 +81,14 @@ impl<'t, 'm, 's> Decoder<'t, 'm, 's> {
             × (kind_of (entry_at self.now.table.now row.now.entry).kind ≡ Some kind)
             × (is_free kind (entry_at self.now.table.now row.now.entry) ≡ true) }
     {
+        if row.key as usize != done {
+            return false;
+        }
         let e = self.entry(row.entry);
         let Some(kind) = EntryKind::from_number(e.kind) else {
-            return false;
+            unreachable!()
         };
-        row.key as usize == done && is_free(&e, kind)
+        is_free(&e, kind)
     }
 
     /// The bool among the rows up to this one, where it can be passed over behind rows with this
