@@ -4,6 +4,7 @@ pub mod Finding
 pub mod Content
 pub mod Unlinked
 pub mod Viewing
+pub mod NumberRead
 pub mod Parts
 pub mod Blank
 pub mod Lists

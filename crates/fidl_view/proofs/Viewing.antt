@@ -45,7 +45,7 @@ use Rattle.fidl_decode_model.specs.Placed.{object_at, Placed}
 use Rattle.fidl_decode_model.specs.Readable.{Readable, AreUnlinked, StandsIn}
 use Rattle.fidl_view.proofs.Reading.{Stood, unsigned_is, signed_is}
 
-unknown_none : false ≡ true → ⊥
+pub unknown_none : false ≡ true → ⊥
 unknown_none e = cc
 
 -- a message has room for its primary object, and is no longer than a message may be
@@ -276,12 +276,6 @@ module _ (d : Shown) (w : WellFormed d.table) (index place : ℕ) (lt : index < 
       go (Some kind) h = refl
       go None h = absurd (unknown_none h)
 
-  pub numbers_bits : IsOf Bits (entry_at d.table index) → (k : EntryKind) → as_number k ≡ underlying (entry_at d.table index) → IsTrue (is_number k) → number_type k ≡ numbers_of (type_of d index)
-  numbers_bits is k same number = as_type k number ∙ ap (λ (n : Kind). Some n) same ∙ sym (ap (λ (u : Term). numbers_of u) (own_type Bits is))
-
-  pub numbers_enum : IsOf Enum (entry_at d.table index) → (k : EntryKind) → as_number k ≡ underlying (entry_at d.table index) → IsTrue (is_number k) → number_type k ≡ numbers_of (type_of d index)
-  numbers_enum is k same number = as_type k number ∙ ap (λ (n : Kind). Some n) same ∙ sym (ap (λ (u : Term). numbers_of u) (own_type Enum is))
-
   -- bits and enums are of a kind of numbers, and as large as its numbers
   number_of : (o : Option EntryKind) → IsTrue (option_map_or is_unsigned o false) → IsTrue (option_map_or is_number o false)
   number_of None h = absurd (unknown_none h)
@@ -295,13 +289,25 @@ module _ (d : Shown) (w : WellFormed d.table) (index place : ℕ) (lt : index < 
   subtype_there (inl is) = number_of (kind_of (entry_at d.table index).subtype) (fine_as d.table fine index Bits lt is).content
   subtype_there (inr is) = ((w.entries index lt).shape.enum is).subtype
 
-  pub numbers_there : (IsOf Bits (entry_at d.table index) ⊎ IsOf Enum (entry_at d.table index)) → (k : EntryKind) → as_number k ≡ underlying (entry_at d.table index) → IsTrue (is_number k) → number_type k ≡ numbers_of (type_of d index)
-  numbers_there (inl is) = numbers_bits is
-  numbers_there (inr is) = numbers_enum is
+  -- that of the kind that their subtype is the number of
+  as_stated : (k : EntryKind) → kind_of (entry_at d.table index).subtype ≡ Some k → as_number k ≡ underlying (entry_at d.table index)
+  as_stated k named = sym (ap (λ (o : Option EntryKind). option_map_or as_number o uint8) named)
 
-  pub fits_there : (IsOf Bits (entry_at d.table index) ⊎ IsOf Enum (entry_at d.table index)) → byte_len (width (underlying (entry_at d.table index))) ≡ (entry_at d.table index).size
-  fits_there (inl is) = ap (λ (f : Figure). f.size) (figure_is d.table fine index Bits lt is)
-  fits_there (inr is) = ap (λ (f : Figure). f.size) (figure_is d.table fine index Enum lt is)
+  numbers_stated : (IsOf Bits (entry_at d.table index) ⊎ IsOf Enum (entry_at d.table index)) → Some (underlying (entry_at d.table index)) ≡ numbers_of (type_of d index)
+  numbers_stated (inl is) = sym (ap (λ (u : Term). numbers_of u) (own_type Bits is))
+  numbers_stated (inr is) = sym (ap (λ (u : Term). numbers_of u) (own_type Enum is))
+
+  pub numbers_there : (IsOf Bits (entry_at d.table index) ⊎ IsOf Enum (entry_at d.table index)) → (k : EntryKind) → kind_of (entry_at d.table index).subtype ≡ Some k → number_type k ≡ numbers_of (type_of d index)
+  numbers_there either k named =
+      let number = subst (λ (o : Option EntryKind). IsTrue (option_map_or is_number o false)) named (subtype_there either) in
+      as_type k number ∙ ap (λ (n : Kind). Some n) (as_stated k named) ∙ numbers_stated either
+
+  stated_size : (IsOf Bits (entry_at d.table index) ⊎ IsOf Enum (entry_at d.table index)) → byte_len (width (underlying (entry_at d.table index))) ≡ (entry_at d.table index).size
+  stated_size (inl is) = ap (λ (f : Figure). f.size) (figure_is d.table fine index Bits lt is)
+  stated_size (inr is) = ap (λ (f : Figure). f.size) (figure_is d.table fine index Enum lt is)
+
+  pub fits_there : (IsOf Bits (entry_at d.table index) ⊎ IsOf Enum (entry_at d.table index)) → (k : EntryKind) → kind_of (entry_at d.table index).subtype ≡ Some k → byte_len (width (as_number k)) ≡ (entry_at d.table index).size
+  fits_there either k named = ap (λ (n : Kind). byte_len (width n)) (as_stated k named) ∙ stated_size either
 
   pub fits_else : (k : EntryKind) → IsOf k (entry_at d.table index) → (k ≡ Bits → ⊥) → (k ≡ Enum → ⊥) → byte_len (width (as_number k)) ≤ (entry_at d.table index).size
   fits_else k is b e = by_sort (λ k. IsOf k (entry_at d.table index) → (k ≡ Bits → ⊥) → (k ≡ Enum → ⊥) → byte_len (width (as_number k)) ≤ (entry_at d.table index).size)

@@ -6,7 +6,8 @@ ghost use Rattle.fidl_table_format.specs.Kind.{number_type};
 ghost use Rattle.fidl_table_format.specs.Terms.{as_number};
 ghost use Rattle.fidl_view.specs.Numbers.{unsigned_at, signed_at};
 
-use fidl_table_format::{EntryKind, number_bits};
+use fidl_table_format::EntryKind;
+use fidl_wire::{u16_at, u32_at, u64_at};
 
 /// The number of an unsigned kind at a place, none for the other kinds.
 #[inline(always)]
@@ -15,9 +16,10 @@ pub(crate) fn unsigned(kind: EntryKind, bytes: &[u8], place: usize) -> Option<u6
     ensures { result ≡ unsigned_at (number_type kind) bytes.now place }
 {
     match kind {
-        EntryKind::Uint8 | EntryKind::Uint16 | EntryKind::Uint32 | EntryKind::Uint64 => {
-            Some(number_bits(kind, bytes, place))
-        }
+        EntryKind::Uint8 => Some(u64::from(bytes[place])),
+        EntryKind::Uint16 => Some(u64::from(u16_at(bytes, place))),
+        EntryKind::Uint32 => Some(u64::from(u32_at(bytes, place))),
+        EntryKind::Uint64 => Some(u64_at(bytes, place)),
         _ => None,
     }
 }
@@ -29,9 +31,10 @@ pub(crate) fn signed(kind: EntryKind, bytes: &[u8], place: usize) -> Option<i64>
     ensures { result ≡ signed_at (number_type kind) bytes.now place }
 {
     match kind {
-        EntryKind::Int8 | EntryKind::Int16 | EntryKind::Int32 | EntryKind::Int64 => {
-            Some(number_bits(kind, bytes, place).cast_signed())
-        }
+        EntryKind::Int8 => Some(i64::from(bytes[place].cast_signed())),
+        EntryKind::Int16 => Some(i64::from(u16_at(bytes, place).cast_signed())),
+        EntryKind::Int32 => Some(i64::from(u32_at(bytes, place).cast_signed())),
+        EntryKind::Int64 => Some(u64_at(bytes, place).cast_signed()),
         _ => None,
     }
 }

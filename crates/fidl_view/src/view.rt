@@ -3,7 +3,7 @@
 //! What holds of a table behind a shared borrow is known here only from what its calls ensure. So
 //! some bodies read an entry, a kind or the number of rows for that alone: that the table is
 //! well-formed, or that a number of it has 32 bits. The names of what they read begin with `_`.
-ghost use Rattle.std.specs.Prelude.{◌≡◌, ◌+◌, ◌<◌, ◌≤◌, length};
+ghost use Rattle.std.specs.Prelude.{◌≡◌, ◌⊎◌, ◌+◌, ◌<◌, ◌≤◌, length};
 ghost use Rattle.fidl_wire.specs.Value.{Value};
 ghost use Rattle.fidl_limits.specs.declared.limits.TheConstants.{MAX_MESSAGE_BYTES};
 ghost use Rattle.fidl_table_format.specs.Section.{header_of, entry_at};
@@ -32,13 +32,14 @@ pub struct View<'v, 'm> {
 impl<'v, 'm> View<'v, 'm> {
     ghost use Rattle.std.specs.Int.{byte_len};
     ghost use Rattle.fidl_wire.specs.Term.{width};
+    ghost use Rattle.fidl_table_format.specs.declared.kind.EntryKind.TheVariants as EntryKind;
     ghost use Rattle.fidl_table_format.specs.Kind.{number_type};
     ghost use Rattle.fidl_table_format.specs.Terms.{as_number};
     ghost use Rattle.fidl_table_format.specs.Entry.{IsOf};
     ghost use Rattle.fidl_table_format.specs.WellFormed.{WellFormed};
     ghost use Rattle.fidl_view.specs.Parts.{absence_of, bool_of, numbers_of, unsigned_of};
     ghost use Rattle.fidl_view.specs.Parts.{signed_of};
-    ghost use Rattle.fidl_view.specs.Views.{IsShownBy, part_of, type_shown};
+    ghost use Rattle.fidl_view.specs.Views.{IsShownBy, part_of, type_shown, entry_shown};
 
     /// The table that the part's type is from.
     #[inline(always)]
@@ -82,19 +83,17 @@ impl<'v, 'm> View<'v, 'm> {
         entry_kind(self.decoded, self.index)
     }
 
-    /// The kind of the part's number: its own kind, or the underlying kind of bits and enums.
+    /// The kind of the underlying type of bits or an enum.
     #[inline(always)]
-    fn number_kind(self) -> EntryKind
+    fn underlying(self) -> EntryKind
+        requires { IsOf EntryKind.Bits (entry_shown self) ⊎ IsOf EntryKind.Enum (entry_shown self) }
         ensures numbers { number_type result ≡ numbers_of (type_shown self.entry) }
         ensures room { self.entry.place + byte_len (width (as_number result))
             ≤ length self.entry.decoded.now.bytes }
-        ensures well_formed { WellFormed self.entry.decoded.now.table }
     {
-        match self.kind() {
-            EntryKind::Bits | EntryKind::Enum => {
-                self.decoded.table().entry(self.index).underlying()
-            }
-            kind => kind,
+        match EntryKind::from_subtype(self.decoded.table().entry(self.index).subtype) {
+            Some(kind) => kind,
+            None => unreachable!(),
         }
     }
 
@@ -131,7 +130,11 @@ impl<'v, 'm> View<'v, 'm> {
         ensures { (v : Value) → IsShownBy self.entry v → result
             ≡ unsigned_of (type_shown self.entry) v }
     {
-        unsigned(self.number_kind(), self.decoded.links().raw(), self.place)
+        let bytes = self.decoded.links().raw();
+        match self.kind() {
+            EntryKind::Bits | EntryKind::Enum => unsigned(self.underlying(), bytes, self.place),
+            kind => unsigned(kind, bytes, self.place),
+        }
     }
 
     /// The number of int8, int16, int32 or int64, and of an enum of one of these; none of another
@@ -141,6 +144,10 @@ impl<'v, 'm> View<'v, 'm> {
         ensures { (v : Value) → IsShownBy self.entry v → result
             ≡ signed_of (type_shown self.entry) v }
     {
-        signed(self.number_kind(), self.decoded.links().raw(), self.place)
+        let bytes = self.decoded.links().raw();
+        match self.kind() {
+            EntryKind::Bits | EntryKind::Enum => signed(self.underlying(), bytes, self.place),
+            kind => signed(kind, bytes, self.place),
+        }
     }
 }

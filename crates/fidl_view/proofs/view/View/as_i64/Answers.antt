@@ -1,33 +1,29 @@
-use Rattle.std.proofs.Common.{◌≡◌, ◌+◌, ◌≤◌, ap, ◌∙◌, length, arith}
-use Rattle.std.specs.Prelude.{Option, Some, unwrap_or}
-use Rattle.std.specs.Int.{byte_len}
-use Rattle.fidl_wire.specs.Term.{Kind, width, uint8}
-use Rattle.fidl_view.specs.Numbers.{signed_at}
-use Rattle.fidl_view.specs.Parts.{numbers_of}
-use Rattle.fidl_view.specs.Shows.{type_of}
+use Rattle.std.proofs.Common.{ap, ◌∙◌, length, arith}
 use Rattle.fidl_view.proofs.Viewing as viewing
-use Rattle.fidl_view.proofs.Unlinked as unlinked
+use Rattle.fidl_view.proofs.NumberRead.{signed_read}
 use Rattle.fidl_view.proofs.view.View.as_i64.Goals as goal
 
-pub signed-requires : goal.signed-requires
-signed-requires c =
+pub signed-requires-in_default : goal.signed-requires-in_default
+signed-requires-in_default c =
+    let s = c.args.self in
+    let k = c.kind.result in
+    let fits = viewing.fits_else s.decoded.now c.kind.ensures.well_formed s.index s.place s.in_range k c.kind.ensures.of c.in_default.not-Bits c.in_default.not-Enum in
     let long = ap length c.links.ensures.came in
-    omega (arith, c.number_kind.ensures.room, c.raw.ensures.same_length, long)
+    omega (arith, fits, s.room, c.raw-bytes.ensures.same_length, long)
 
-pub returns : goal.returns
-returns c v s =
-    let d = c.args.self.decoded.now in
-    let i = c.args.self.index in
-    let p = c.args.self.place in
-    let lt = c.args.self.in_range in
-    let w = c.number_kind.ensures.well_formed in
-    let own = numbers_of (type_of d i) in
-    let raw = c.raw.result.now in
-    let room : (kind : Kind) → own ≡ Some kind → p + byte_len (width kind) ≤ length d.bytes = λ kind is. (
-    let same = ap (λ (o : Option Kind). byte_len (width (unwrap_or o uint8))) (c.number_kind.ensures.numbers ∙ is) in
-    omega (arith, same, c.number_kind.ensures.room)
-    ) in
+pub returns-in-Bits : goal.returns-in-Bits
+returns-in-Bits c v shown =
+    let s = c.args.self in
     c.signed.ensures
-    ∙ ap (λ (o : Option Kind). signed_at o raw p) c.number_kind.ensures.numbers
-    ∙ unlinked.signed_same c.links.result.now d.bytes d.links c.links.ensures.came c.links.ensures.noted raw c.raw.ensures.same_length c.raw.ensures.agree own p room (λ kind is. viewing.number_unlinked d w i p lt kind is v s)
-    ∙ viewing.signed_shown d w i p lt v s
+    ∙ signed_read s.decoded.now c.kind.ensures.well_formed s.index s.place s.in_range c.links.result.now c.links.ensures.came c.links.ensures.noted c.raw-bytes.result.now c.raw-bytes.ensures.same_length c.raw-bytes.ensures.agree
+    c.underlying.result c.underlying.ensures.numbers c.underlying.ensures.room v shown
+
+pub returns-in_default : goal.returns-in_default
+returns-in_default c v shown =
+    let s = c.args.self in
+    let k = c.kind.result in
+    let w = c.kind.ensures.well_formed in
+    let fits = viewing.fits_else s.decoded.now w s.index s.place s.in_range k c.kind.ensures.of c.in_default.not-Bits c.in_default.not-Enum in
+    c.signed-in_default.ensures
+    ∙ signed_read s.decoded.now w s.index s.place s.in_range c.links.result.now c.links.ensures.came c.links.ensures.noted c.raw-bytes.result.now c.raw-bytes.ensures.same_length c.raw-bytes.ensures.agree
+    k (viewing.numbers_else s.decoded.now w s.index s.place s.in_range k c.kind.ensures.of c.in_default.not-Bits c.in_default.not-Enum) (omega (arith, fits, s.room)) v shown
