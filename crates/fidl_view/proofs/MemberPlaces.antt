@@ -11,7 +11,7 @@ use Rattle.fidl_table_format.specs.declared.record.Header.{Header}
 use Rattle.fidl_table_format.specs.declared.record.Entry.{Entry}
 use Rattle.fidl_table_format.specs.declared.kind.EntryKind.{EntryKind}
 use Rattle.fidl_table_format.specs.declared.kind.EntryKind.TheVariants.{Bool as Boolean, Int8, Int16, Int32, Int64, Uint8, Uint16, Uint32, Uint64, Bits, Enum, String, Vector, Array, Box, Struct, Table, Union, Handle}
-use Rattle.fidl_table_format.specs.Section.{header_of, entry_at, row_at}
+use Rattle.fidl_table_format.specs.Section.{header_of, entry_at, row_at, row_place, table_length}
 use Rattle.fidl_table_format.specs.Terms.{declarations_of, term_as}
 use Rattle.fidl_table_format.specs.Entry.{IsOf}
 use Rattle.fidl_table_format.specs.WellFormed.{WellFormed}
@@ -30,6 +30,10 @@ use Rattle.fidl_view.specs.Members.{ShowMembers, fields_at}
 use Rattle.fidl_view.proofs.Finding.{nth_field}
 use Rattle.fidl_view.proofs.Content.{not_both}
 use Rattle.fidl_view.proofs.Viewing as viewing
+
+-- a row of a table lies in its bytes
+row_fits : (h : Header) (n i : ℕ) → n ≡ table_length h → i < h.rows → row_place h i + 16 ≤ n
+row_fits h n i whole less = omega (arith, whole, less)
 
 -- ---- values that have no members
 
@@ -118,6 +122,10 @@ module _ (d : Shown) (w : WellFormed d.table) where
 
     pub row_in_range : (i : ℕ) → i < (entry_at d.table index).count → (entry_at d.table index).first + i < (header_of d.table).rows
     row_in_range i less = let c = struct_fine.content.0 in omega arith
+
+    -- which lies in the bytes of the table
+    pub row_within : (i : ℕ) → i < (entry_at d.table index).count → row_place (header_of d.table) ((entry_at d.table index).first + i) + 16 ≤ length d.table
+    row_within i less = row_fits (header_of d.table) (length d.table) ((entry_at d.table index).first + i) w.header.whole (row_in_range i less)
 
     pub member_shown : (i : ℕ) → i < (entry_at d.table index).count → (vs : Values) → ShowMembers d index place vs
         → let r = row_at d.table (header_of d.table) ((entry_at d.table index).first + i) in (x : Value) × (nth vs i ≡ Some x) × Shows d r.entry (place + r.key) x

@@ -10,7 +10,7 @@ ghost use Rattle.fidl_view.specs.Members.{HaveMembers};
 
 use crate::view::View;
 use fidl_decode::Decoded;
-use fidl_table_format::{EntryKind, Row};
+use fidl_table_format::{EntryKind, Row, row_from};
 
 /// The members of a struct, or of the struct in a box: the struct's entry, and where it stands in
 /// the message. It borrows the `Decoded`, as a view does.
@@ -103,13 +103,15 @@ impl<'v, 'm> View<'v, 'm> {
         let Some(members) = self.members() else {
             return None;
         };
-        let entry = members.decoded.table().entry(members.index);
+        let table = members.decoded.table();
+        let entry = table.entry(members.index);
         if at >= entry.count as usize {
             return None;
         }
-        // Read, so that the number of rows, and with it each row's, is known to have 32 bits.
-        let _rows = members.decoded.table().rows();
-        let row = members.decoded.table().row(entry.first + at as u32);
+        let row = row_from(
+            table.bytes(),
+            table.rows_start() + 16 * (entry.first as usize + at),
+        );
         Some(members.part(at as u32, &row))
     }
 }
