@@ -156,7 +156,7 @@ impl<'t, 'm, 's> Decoder<'t, 'm, 's> {
     }
 
     /// Passes over the next envelopes, as long as their members are of this entry, and answers how
-    /// many are read then. The steps, one for each, are not counted yet.
+    /// far they are read then. The steps, one for each, are not counted yet.
     #[inline(always)]
     fn pass_run(
         &self,
@@ -195,8 +195,8 @@ impl<'t, 'm, 's> Decoder<'t, 'm, 's> {
         at
     }
 
-    /// Passes over the next envelope, whose member is of this entry and kind, and answers how many
-    /// are read then. The step that this takes is not counted yet.
+    /// Passes over the next envelope, whose member is of this entry and kind, and answers how far
+    /// they are read then. The step that this takes is not counted yet.
     #[inline(always)]
     fn pass_one(
         &self,
@@ -237,7 +237,7 @@ impl<'t, 'm, 's> Decoder<'t, 'm, 's> {
         from
     }
 
-    /// Passes over the next envelopes with members of one entry, and answers how many are read
+    /// Passes over the next envelopes with members of one entry, and answers how far they are read
     /// then. The steps, one for each, are not counted yet.
     #[inline(always)]
     fn pass_alike(&self, body: &TableBody<'_>, from: Cursor, state: &mut State<'_, '_>) -> Cursor
@@ -281,7 +281,7 @@ impl<'t, 'm, 's> Decoder<'t, 'm, 's> {
     }
 
     /// Passes over the next envelopes: one that is absent, or those with members of one entry;
-    /// answers how many are read then. The steps, one for each, are not counted yet.
+    /// answers how far they are read then. The steps, one for each, are not counted yet.
     #[inline(always)]
     fn pass_some(&self, body: &TableBody<'_>, from: Cursor, state: &mut State<'_, '_>) -> Cursor
         requires body { BodyFine self.now.table.now body.now }
