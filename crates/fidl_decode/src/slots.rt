@@ -239,6 +239,7 @@ impl<'t, 'm, 's> Frames<'t, 'm, 's> {
 
     /// Reads the envelopes of a table in place, with the members in and behind them and what these
     /// lead to, up to one that leads to more than is read there.
+    #[inline(never)]
     pub(crate) fn read_envelopes(
         &self,
         frame: Frame,
