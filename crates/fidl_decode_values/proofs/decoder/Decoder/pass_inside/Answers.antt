@@ -19,7 +19,8 @@ returns-clause-passed c =
     let led : opened c.args.envelope old ≡ new = λ i. record { next = old.next; handle = old.handle; objects = sym c.link_inside.ensures.objects i; records = sym c.link_inside.ensures.records i } in
     let numbers = inside_numbers c.args.self.now.bytes.value.came c.args.envelope c.requires.room (λ i. omega (arith, c.args.self.now.octets i)) (sym c.u32_at.ensures ∙ c.if-u32_at-ne-NO_HANDLES_INSIDE.false) in
     let z = ap (λ n. n / 2 ^ (8 * c.args.size)) (sym (c.from.ensures ∙ c.u32_at-2.ensures)) ∙ c.if-from-size-ne0.false in
-    let behind = subst (λ n. Stands c.args.self.now.bytes.value.came (c.args.envelope + n) (zeros (c.args.envelope + 4 - (c.args.envelope + n)))) (sym c.requires.size) (zeros_behind c.args.self.now.bytes.value.came c.args.envelope (λ i. omega (arith, c.args.self.now.octets i)) (omega (arith, c.requires.room)) c.args.size c.requires.small z) in
+    let stand = zeros_behind c.args.self.now.bytes.value.came c.args.envelope (λ i. omega (arith, c.args.self.now.octets i)) (omega (arith, c.requires.room)) c.args.size c.requires.small z in
+    let behind = subst (λ n. Stands c.args.self.now.bytes.value.came (c.args.envelope + n) (zeros (c.args.envelope + 4 - (c.args.envelope + n)))) (sym c.requires.size) stand in
     inside_passed t c.args.self.now.fine m (c.args.self.now.short, c.requires.state.few) c.args.depth c.args.entry c.args.envelope old
     c.requires.entry c.requires.room (λ i. omega (arith, c.args.self.now.octets i)) c.requires.state c.requires.depth c.requires.free
     (subst (λ n. n ≤ 4) (sym c.requires.size) c.requires.small) numbers.1 numbers.0 behind new led _
