@@ -24,3 +24,4 @@ pub mod Growing
 pub mod Numbered
 pub mod Owned
 pub mod FieldParts
+pub mod Boxed

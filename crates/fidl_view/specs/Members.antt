@@ -1,7 +1,7 @@
 -- The members of a struct, a table or a union, where they stand in a message (docs/views.md,
 -- "Calls").
-use Rattle.std.specs.Prelude.{ℕ, zero, suc, ◌≤◌, false, length, Option, Some, None}
-use Rattle.fidl_wire.specs.Value.{Values, Member}
+use Rattle.std.specs.Prelude.{◌≡◌, ℕ, zero, suc, ◌≤◌, false, length, Option, Some, None}
+use Rattle.fidl_wire.specs.Value.{Value, Values, Member, fields}
 use Rattle.fidl_wire.specs.Term.{Term, Fields, no_fields, field, resolve, find}
 use Rattle.fidl_wire.specs.Term as ty
 use Rattle.fidl_wire.specs.Figure.{Declarations, size_of}
@@ -35,6 +35,10 @@ pub record ShowMembers (d : Shown) (index place : ℕ) (vs : Values) : Type 0 wh
 -- some values are
 abbrev pub HaveMembers : Shown → (index place : ℕ) → Type 0
 HaveMembers d index place = (vs : Values) × ShowMembers d index place vs
+
+-- the value has members, and they are some of these
+abbrev pub HaveMembersAt : Shown → (index place : ℕ) → Value → Type 0
+HaveMembersAt d index place v = (vs : Values) × (v ≡ fields vs) × ShowMembers d index place vs
 
 -- the type that the layout of a table's or union's entry gives the member of an ordinal, where it
 -- has that

@@ -1,5 +1,6 @@
 //! What a view answers of structs and boxes.
 ghost use Rattle.std.specs.Prelude.{◌≡◌, ◌+◌, ◌<◌, ◌≤◌, length, Some, None, IfSome, MatchOption};
+ghost use Rattle.std.specs.Prelude.{IsTrue, IsFalse};
 ghost use Rattle.fidl_wire.specs.Value.{Value};
 ghost use Rattle.fidl_limits.specs.declared.limits.TheConstants.{MAX_MESSAGE_BYTES};
 ghost use Rattle.fidl_table_format.specs.declared.kind.EntryKind.TheVariants as EntryKind;
@@ -10,7 +11,14 @@ ghost use Rattle.fidl_view.specs.Members.{HaveMembers};
 
 use crate::view::View;
 use fidl_decode::Decoded;
-use fidl_table_format::{EntryKind, Row, row_from};
+use fidl_table_format::{Row, row_from};
+
+/// The number of the kind of boxes. The kind is compared as a number, since the compiler makes a
+/// branch of a match on it, which each member that is read would take again.
+const BOX: u8 = 15;
+
+/// The number of the kind of structs.
+const STRUCT: u8 = 16;
 
 /// The members of a struct, or of the struct in a box: the struct's entry, and where it stands in
 /// the message. It borrows the `Decoded`, as a view does.
@@ -25,8 +33,27 @@ pub struct Members<'v, 'm> {
     ghost shown: { ∥ HaveMembers decoded.now index place ∥₁ },
 }
 
+/// The first of two entries where it is wanted, else the second, without a branch.
+#[inline(always)]
+fn either_entry(wants_first: bool, first: u32, second: u32) -> u32
+    ensures yes { IsTrue wants_first → result ≡ first }
+    ensures no { IsFalse wants_first → result ≡ second }
+{
+    if wants_first { first } else { second }
+}
+
+/// The first of two places where it is wanted, else the second, without a branch.
+#[inline(always)]
+fn either_place(wants_first: bool, first: usize, second: usize) -> usize
+    ensures yes { IsTrue wants_first → result ≡ first }
+    ensures no { IsFalse wants_first → result ≡ second }
+{
+    if wants_first { first } else { second }
+}
+
 impl<'v, 'm> View<'v, 'm> {
     ghost use Rattle.fidl_view.specs.Views.{part_of, message_held, ShowsMembersOf, IsShownBy};
+    ghost use Rattle.fidl_view.specs.Members.{HaveMembersAt};
     ghost use Rattle.fidl_view.specs.Views.{type_shown, field_type, AreFieldsOf, entry_held};
     ghost use Rattle.fidl_view.specs.Views.{entry_shown};
 
@@ -71,6 +98,48 @@ impl<'v, 'm> View<'v, 'm> {
         })
     }
 
+    /// Whether it is a struct.
+    #[inline(always)]
+    fn is_struct(self) -> bool
+        ensures yes { IsTrue result → IsOf EntryKind.Struct (entry_shown self.entry) }
+        ensures no { IsFalse result → IsOf EntryKind.Struct (entry_shown self.entry) → ⊥ }
+    {
+        self.decoded.table().entry(self.index).kind == STRUCT
+    }
+
+    /// Whether it is a box.
+    #[inline(always)]
+    fn is_box(self) -> bool
+        ensures yes { IsTrue result → IsOf EntryKind.Box (entry_shown self.entry) }
+        ensures no { IsFalse result → IsOf EntryKind.Box (entry_shown self.entry) → ⊥ }
+    {
+        self.decoded.table().entry(self.index).kind == BOX
+    }
+
+    /// Where the struct in a box begins in the message; 0 where the box is absent, and where it is
+    /// no box. The message's first word is then read in place of the box's, and no branch is taken.
+    #[inline(always)]
+    fn object_if(self, boxed: bool) -> usize
+        requires { IsTrue boxed → IsOf EntryKind.Box (entry_shown self) }
+        ensures absent { (v : Value) → IsTrue boxed → result ≡ 0 → IsShownBy self.entry v
+            → IsNoStruct v }
+        ensures boxed { 0 < result → IsTrue boxed }
+        ensures there { (v : Value) → 0 < result → IsShownBy self.entry v
+            → HaveMembersAt (part_of self.entry).message (entry_shown self.entry).first result v }
+    {
+        // Read, so that the table is known to be well-formed, and the message to have whole words.
+        let _rows = self.decoded.table().rows();
+        let _entry = self.decoded.entry();
+        let links = self.decoded.links();
+        let marker = either_place(boxed, self.place, 0);
+        let blank = links.is_blank(marker);
+        if boxed & !blank {
+            links.object_of_marker(marker)
+        } else {
+            0
+        }
+    }
+
     /// The members of a struct, or of the struct in a box; none where the box is absent, and of
     /// another kind.
     #[inline(always)]
@@ -81,11 +150,21 @@ impl<'v, 'm> View<'v, 'm> {
         ensures members { (v : Value) → IsShownBy self.entry v
             → MatchOption result (IsNoStruct v) (ShowsMembersOf v) }
     {
-        match self.kind() {
-            EntryKind::Struct => Some(self.struct_members()),
-            EntryKind::Box => self.box_members(),
-            _ => None,
+        // No branch tells a box from a struct. So the compiler finds the members once for a caller
+        // that reads several of one view, and not again for each.
+        let boxed = self.is_box();
+        let object = self.object_if(boxed);
+        let content = self.decoded.table().entry(self.index).first;
+        let index = either_entry(boxed, content, self.index);
+        let place = either_place(boxed, object, self.place);
+        if !self.is_struct() & (!boxed | (object == 0)) {
+            return None;
         }
+        Some(Members {
+            decoded: self.decoded,
+            index,
+            place,
+        })
     }
 
     /// The member of a struct, or of the struct in a box, at this place in its declaration, counted

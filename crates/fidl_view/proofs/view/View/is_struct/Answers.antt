@@ -1,0 +1,21 @@
+use Rattle.std.proofs.Common.{◌≡◌, ℕ, List, ap, sym, subst, ◌∙◌}
+use Rattle.std.specs.Prelude.{Some}
+use Rattle.std.proofs.lemmas.Bool.{eqb-true, eqb-false}
+use Rattle.fidl_table_format.specs.declared.record.Entry.{Entry}
+use Rattle.fidl_table_format.specs.declared.kind.EntryKind.TheVariants.{Struct}
+use Rattle.fidl_table_format.specs.Kind.{kind_of}
+use Rattle.fidl_table_format.specs.Section.{entry_at}
+use Rattle.fidl_view.proofs.Boxed.{struct_number}
+use Rattle.fidl_view.proofs.view.View.is_struct.Goals as goal
+
+pub returns-clause-yes : goal.returns-clause-yes
+returns-clause-yes c t =
+    let s = c.args.self in
+    let e : c.entry.result ≡ entry_at s.decoded.now.table s.index = c.entry.ensures.value ∙ ap (λ (b : List ℕ). entry_at b s.index) c.table.ensures in
+    subst (λ (x : Entry). kind_of x.kind ≡ Some Struct) e (ap kind_of (eqb-true c.entry.result.kind 16 t))
+
+pub returns-clause-no : goal.returns-clause-no
+returns-clause-no c f is =
+    let s = c.args.self in
+    let e : c.entry.result ≡ entry_at s.decoded.now.table s.index = c.entry.ensures.value ∙ ap (λ (b : List ℕ). entry_at b s.index) c.table.ensures in
+    eqb-false c.entry.result.kind 16 f (struct_number c.entry.result.kind (subst (λ (x : Entry). kind_of x.kind ≡ Some Struct) (sym e) is))
