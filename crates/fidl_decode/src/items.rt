@@ -1,4 +1,5 @@
-//! The elements of an array or vector, each read in place with what it leads to.
+//! The elements of an array or vector, each read in place with what it leads to. The members of the
+//! tables of a long vector are looked up once.
 ghost use Rattle.std.specs.Prelude.{◌≡◌, ◌+◌, ◌-◌, ◌^◌, ◌<◌, ◌≤◌, OnOk, IfOk, IfErr, Some, IsTrue};
 ghost use Rattle.std.specs.Prelude.{None, IsFalse, length};
 ghost use Rattle.fidl_limits.specs.declared.limits.TheConstants.{MAX_DEPTH};
@@ -18,8 +19,33 @@ ghost use Rattle.fidl_decode.specs.Reading.{CanReadValue};
 
 use crate::frames::Frames;
 use crate::kinds::UNION;
+use fidl_decode_members::Members;
 use fidl_decode_model::DecodeFault;
 use fidl_decode_model::frame::{Frame, Remaining, State, Turn};
+
+/// The frame of the elements behind those that are read: so many, from so far on.
+#[inline(always)]
+pub(crate) fn elements_behind(frame: &Frame, entry: u32, size: u32, count: u32, done: u32) -> Frame
+    ensures { result ≡ record {
+      left = left.Elements entry size count;
+      base = frame.now.base;
+      done = done;
+      size = frame.now.size;
+      nest = frame.now.nest;
+      depth = frame.now.depth;
+      in_envelope = frame.now.in_envelope;
+    } }
+{
+    Frame {
+        left: Remaining::Elements { entry, size, count },
+        base: frame.base,
+        done,
+        size: frame.size,
+        nest: frame.nest,
+        depth: frame.depth,
+        in_envelope: frame.in_envelope,
+    }
+}
 
 impl<'t, 'm, 's> Frames<'t, 'm, 's> {
     /// Reads a value at a place, and what it leads to where that is read in place. What is left of
@@ -159,6 +185,14 @@ impl<'t, 'm, 's> Frames<'t, 'm, 's> {
         let own = frame;
         let mut done = own.done as usize;
         for i in 0..count {
+            // Behind as many tables as there are members to look up, so that this costs each little.
+            if TABLES && i == self.decoder.entry(entry).count {
+                if let Some(members) = Members::look_up(&self.decoder, entry) {
+                    let rest = elements_behind(&own, entry, size as u32, count - i, done as u32);
+                    let turn = self.read_tables(&members, rest, size, count - i, state)?;
+                    return Ok(turn);
+                }
+            }
             let place = own.base as usize + done;
             state.steps += 1;
             done += size;
@@ -170,21 +204,10 @@ impl<'t, 'm, 's> Frames<'t, 'm, 's> {
                 state,
             )?;
             if let Some(inner) = found {
+                let left = count - (i + 1);
                 return Ok(Turn {
                     below: Some(inner),
-                    rest: Some(Frame {
-                        left: Remaining::Elements {
-                            entry,
-                            size: size as u32,
-                            count: count - (i + 1),
-                        },
-                        base: own.base,
-                        done: done as u32,
-                        size: own.size,
-                        nest: own.nest,
-                        depth: own.depth,
-                        in_envelope: own.in_envelope,
-                    }),
+                    rest: Some(elements_behind(&own, entry, size as u32, left, done as u32)),
                 });
             }
         }

@@ -31,30 +31,41 @@ use Rattle.fidl_decode_model.proofs.Enclosed.{contained_some}
 use Rattle.fidl_decode_columns.proofs.Leaves.{left_over}
 use Rattle.fidl_decode_model.proofs.Visiting.{size_as}
 
-module _ (t : List ℕ) (fine : IsFine t) (m : Message) (within : IsWithin m.bytes m.handles) (b : TableBody) (read : ℕ) (old : Position) (ff : FrameFine t m.bytes (rest_of b read)) (state : StateFine m old) (more : read < b.count) where
+module _ (t : List ℕ) (fine : IsFine t) (m : Message) (within : IsWithin m.bytes m.handles) (entry base count depth read : ℕ) (old : Position) (ff : FrameFine t m.bytes (envelopes_behind entry base count depth read)) (state : StateFine m old) (more : read < count) where
   abbrev place : ℕ
-  place = b.base + 8 * read
+  place = base + 8 * read
+
+  abbrev frame : Frame
+  frame = envelopes_behind entry base count depth read
 
   -- the frame behind the next envelope, so many of its bytes read
   abbrev behind : (done : ℕ) → Turn
-  behind done = record { below = None; rest = Some (record { left = Envelopes b.entry (read + 1) (b.count - (read + 1)); base = b.base; done = done; size = 8 * b.count; nest = most_nest; depth = b.depth; in_envelope = 0 }) }
+  behind done = record { below = None; rest = Some (record { left = Envelopes entry (read + 1) (count - (read + 1)); base = base; done = done; size = 8 * count; nest = most_nest; depth = depth; in_envelope = 0 }) }
 
   eight : 8 * read + 8 ≡ 8 * (read + 1)
   eight = omega arith
 
-  pub next_absent : Stands m.bytes place (zeros 8) → (n : ℕ) → n ≡ 1 → Turns t m (rest_of b read) old old n (record { below = None; rest = Some (rest_of b (read + 1)) })
-  next_absent z n is = subst (λ d. Turns t m (rest_of b read) old old n (behind d)) eight
-      (envelope_absent t fine m within (rest_of b read) b.entry read (b.count - read) old ff state (read + 1) (b.count - (read + 1)) (add-one read) (omega (arith, more)) (omega (arith, more)) z n is)
+  pub envelope_passed_absent : Stands m.bytes place (zeros 8) → (n : ℕ) → n ≡ 1 → Turns t m frame old old n (record { below = None; rest = Some (envelopes_behind entry base count depth (read + 1)) })
+  envelope_passed_absent z n is = subst (λ d. Turns t m frame old old n (behind d)) eight
+      (envelope_absent t fine m within frame entry read (count - read) old ff state (read + 1) (count - (read + 1)) (add-one read) (omega (arith, more)) (omega (arith, more)) z n is)
 
-  pub next_passed : (e : ℕ) → find (members_of t b.entry) (suc read) ≡ Some (ty.named e) → (new : Position) (spent n : ℕ) → spent + 1 ≤ n → n ≤ 18 + spent → spent + old.next ≤ new.next → Opens t m b.depth (Some (ty.named e)) place old new spent None
-      → Turns t m (rest_of b read) old new n (record { below = None; rest = Some (rest_of b (read + 1)) })
-  next_passed e is new spent n some_steps few pays o =
-      let own : Opens t m b.depth (find (members_of t b.entry) (suc read)) place old new spent None = subst (λ (o : Option Term). Opens t m b.depth o place old new spent None) (sym is) o in
-      let some : Stands m.bytes place (zeros 8) → ⊥ = λ z. contained_some (declarations_of t) fine.laid_out m within b.depth (find (members_of t b.entry) (suc read)) place old new ((own.same new).1 refl) z in
+  pub envelope_passed : (e : ℕ) → find (members_of t entry) (suc read) ≡ Some (ty.named e) → (new : Position) (spent n : ℕ) → spent + 1 ≤ n → n ≤ 18 + spent → spent + old.next ≤ new.next → Opens t m depth (Some (ty.named e)) place old new spent None
+      → Turns t m frame old new n (record { below = None; rest = Some (envelopes_behind entry base count depth (read + 1)) })
+  envelope_passed e is new spent n some_steps few pays o =
+      let own : Opens t m depth (find (members_of t entry) (suc read)) place old new spent None = subst (λ (o : Option Term). Opens t m depth o place old new spent None) (sym is) o in
+      let some : Stands m.bytes place (zeros 8) → ⊥ = λ z. contained_some (declarations_of t) fine.laid_out m within depth (find (members_of t entry) (suc read)) place old new ((own.same new).1 refl) z in
       let within_new = o.state.next in
       let within_old = state.next in
-      subst (λ d. Turns t m (rest_of b read) old new n (behind d)) eight
-      (envelope_opened t fine m within (rest_of b read) b.entry read (b.count - read) old ff state (read + 1) (b.count - (read + 1)) (add-one read) (omega (arith, more)) (omega (arith, more)) some None new spent n some_steps few (omega (arith, pays, within_new, within_old)) own)
+      subst (λ d. Turns t m frame old new n (behind d)) eight
+      (envelope_opened t fine m within frame entry read (count - read) old ff state (read + 1) (count - (read + 1)) (add-one read) (omega (arith, more)) (omega (arith, more)) some None new spent n some_steps few (omega (arith, pays, within_new, within_old)) own)
+
+module _ (t : List ℕ) (fine : IsFine t) (m : Message) (within : IsWithin m.bytes m.handles) (b : TableBody) (read : ℕ) (old : Position) (ff : FrameFine t m.bytes (rest_of b read)) (state : StateFine m old) (more : read < b.count) where
+  pub next_absent : Stands m.bytes (b.base + 8 * read) (zeros 8) → (n : ℕ) → n ≡ 1 → Turns t m (rest_of b read) old old n (record { below = None; rest = Some (rest_of b (read + 1)) })
+  next_absent = envelope_passed_absent t fine m within b.entry b.base b.count b.depth read old ff state more
+
+  pub next_passed : (e : ℕ) → find (members_of t b.entry) (suc read) ≡ Some (ty.named e) → (new : Position) (spent n : ℕ) → spent + 1 ≤ n → n ≤ 18 + spent → spent + old.next ≤ new.next → Opens t m b.depth (Some (ty.named e)) (b.base + 8 * read) old new spent None
+      → Turns t m (rest_of b read) old new n (record { below = None; rest = Some (rest_of b (read + 1)) })
+  next_passed = envelope_passed t fine m within b.entry b.base b.count b.depth read old ff state more
 
 -- the rows of the entry that is noted lie in the table, and name entries of it
 pub row_lies : (t : List ℕ) (b : TableBody) → BodyFine t b → (read : ℕ) → read < b.known → (entry_at t b.entry).first + read < (header_of t).rows

@@ -24,4 +24,6 @@ mod visit;
 pub mod worked;
 
 pub use decoder::Decoder;
+pub use passing_structs::FreeStruct;
 pub use plain::{Plain, rows_from};
+pub use tables::envelopes_left;

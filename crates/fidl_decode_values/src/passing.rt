@@ -31,7 +31,7 @@ impl<'t, 'm, 's> Decoder<'t, 'm, 's> {
     /// are a value of, where its numbers and the bytes behind the member are right. Else nothing is
     /// read.
     #[inline(always)]
-    pub(crate) fn pass_inside(
+    pub fn pass_inside(
         &self,
         entry: u32,
         size: usize,
@@ -72,7 +72,7 @@ impl<'t, 'm, 's> Decoder<'t, 'm, 's> {
     /// Passes over the envelope at a place, whose member has eight bytes out of line that any bytes
     /// are a value of, where its numbers are right. Else nothing is read.
     #[inline(always)]
-    pub(crate) fn pass_below(
+    pub fn pass_below(
         &self,
         entry: u32,
         envelope: usize,
@@ -112,7 +112,13 @@ impl<'t, 'm, 's> Decoder<'t, 'm, 's> {
     /// Passes over the envelope at a place, in which a bool stands, where its numbers are right and
     /// it is one. Else nothing is read.
     #[inline(always)]
-    fn pass_bool(&self, entry: u32, envelope: usize, depth: u8, state: &mut State<'_, '_>) -> bool
+    pub fn pass_bool(
+        &self,
+        entry: u32,
+        envelope: usize,
+        depth: u8,
+        state: &mut State<'_, '_>,
+    ) -> bool
         requires entry { entry < (header_of self.now.table.now).entries }
         requires kind { kind_of (entry_at self.now.table.now entry).kind ≡ Some kinds.Bool }
         requires room { envelope + 8 ≤ length (came self.now) }

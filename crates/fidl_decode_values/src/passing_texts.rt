@@ -42,7 +42,7 @@ impl<'t, 'm, 's> Decoder<'t, 'm, 's> {
     /// its
     /// numbers are right. Else nothing is read.
     #[inline(always)]
-    pub(crate) fn pass_text(
+    pub fn pass_text(
         &self,
         entry: u32,
         envelope: usize,

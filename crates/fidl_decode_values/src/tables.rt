@@ -1,12 +1,12 @@
 //! Tables: a count and a marker, and the envelopes, which are the next object.
 ghost use Rattle.std.specs.Prelude.{◌≡◌, ◌+◌, ◌-◌, ◌*◌, ◌^◌, ◌<◌, ◌≤◌, ℕ, OnOk, IfOk, IfErr, Some};
 ghost use Rattle.std.specs.Prelude.{length};
-ghost use Rattle.fidl_limits.specs.declared.limits.TheConstants.{MAX_DEPTH};
+ghost use Rattle.fidl_limits.specs.declared.limits.TheConstants.{MAX_DEPTH, MAX_MESSAGE_BYTES};
 ghost use Rattle.fidl_table_format.specs.declared.kind.EntryKind.TheVariants as kinds;
 ghost use Rattle.fidl_table_format.specs.Kind.{kind_of};
 ghost use Rattle.fidl_table_format.specs.Section.{header_of, entry_at};
 ghost use Rattle.fidl_decode_model.specs.Breaks.{BreaksTable};
-ghost use Rattle.fidl_decode_values.specs.Body.{envelopes_of};
+ghost use Rattle.fidl_decode_values.specs.Body.{envelopes_of, envelopes_behind};
 ghost use Rattle.fidl_decode_model.specs.Steps.{Spends};
 ghost use Rattle.fidl_decode_model.specs.Machine.{StateFine, Visits, VisitFine, at_of};
 ghost use Rattle.fidl_decode_values.specs.Reading.{came, message, Holds};
@@ -17,11 +17,34 @@ use fidl_decode_model::DecodeFault;
 use fidl_decode_model::frame::{Frame, Remaining, State};
 use fidl_wire::{MAX_DEPTH, MAX_NEST};
 
+/// The frame of so many envelopes of a value of a table entry, from a place on, of which these are
+/// read.
+#[inline(always)]
+pub fn envelopes_left(entry: u32, base: usize, count: u32, read: u32, depth: u8) -> Frame
+    requires near { base + 8 * count ≤ MAX_MESSAGE_BYTES }
+    requires few { read ≤ count }
+    ensures { result ≡ envelopes_behind entry base count depth read }
+{
+    Frame {
+        left: Remaining::Envelopes {
+            entry,
+            read,
+            count: count - read,
+        },
+        base: base as u32,
+        done: 8 * read,
+        size: 8 * count,
+        nest: MAX_NEST as u8 + 1,
+        depth,
+        in_envelope: 0,
+    }
+}
+
 impl<'t, 'm, 's> Decoder<'t, 'm, 's> {
     /// Reads the count and the marker of a table at a place, and links its envelopes; answers how
     /// many these are.
     #[inline(always)]
-    fn open_table(
+    pub fn open_table(
         &self,
         entry: u32,
         place: usize,
@@ -106,18 +129,6 @@ impl<'t, 'm, 's> Decoder<'t, 'm, 's> {
             state.steps += 1;
             return Ok(None);
         }
-        Ok(Some(Frame {
-            left: Remaining::Envelopes {
-                entry,
-                read,
-                count: count - read,
-            },
-            base: from as u32,
-            done: 8 * read,
-            size: 8 * count,
-            nest: MAX_NEST as u8 + 1,
-            depth: depth + 1,
-            in_envelope: 0,
-        }))
+        Ok(Some(envelopes_left(entry, from, count, read, depth + 1)))
     }
 }

@@ -1,11 +1,11 @@
 use Rattle.fidl_decode_values.specs.Reading.{message}
 use Rattle.fidl_decode_values.proofs.Fitting.{le_more, eq_le, spends_any}
 use Rattle.fidl_decode_values.proofs.Unchanged.{no_ok}
-use Rattle.std.proofs.Common.{◌+◌, ◌-◌, arith}
+use Rattle.std.proofs.Common.{◌+◌, ◌-◌, sym, subst, arith}
 use Rattle.std.specs.Prelude.{Some, None, refl}
 use Rattle.fidl_decode_values.proofs.EnvelopeTurns.{envelopes_over}
 use Rattle.fidl_decode_values.specs.Body.{envelopes_of, envelopes_behind}
-use Rattle.fidl_decode_model.specs.Machine.{at_of, height}
+use Rattle.fidl_decode_model.specs.Machine.{Visits, VisitFine, at_of, height}
 use Rattle.fidl_decode_columns.proofs.Leaves.{left_over, turns_then}
 use Rattle.fidl_decode_model.proofs.Turning.{fine_from, passed_on}
 use Rattle.fidl_decode_values.proofs.BodyTurns.{visits_on}
@@ -42,7 +42,8 @@ returns-clause-ok c =
     let whole = envelopes_of c.args.entry old.next count (c.args.depth + 1) in
     let rest = envelopes_behind c.args.entry old.next count (c.args.depth + 1) c.pass_front-read.result in
     let still = c.open_table.ensures.steps in
-    visits_on t m c.args.depth c.args.entry c.args.place (at_of old) (at_of mid) 0 whole c.in_ok-count.ensures.ok (at_of now) (now.steps - mid.steps) (now.steps - old.steps) (Some rest) (omega (arith, still)) c.pass_front-read.ensures.turns
+    subst (λ f. Visits t m c.args.depth c.args.entry c.args.place (at_of old) (at_of now) (now.steps - old.steps) (Some f)) (sym c.envelopes_left.ensures)
+    (visits_on t m c.args.depth c.args.entry c.args.place (at_of old) (at_of mid) 0 whole c.in_ok-count.ensures.ok (at_of now) (now.steps - mid.steps) (now.steps - old.steps) (Some rest) (omega (arith, still)) c.pass_front-read.ensures.turns)
 
 pub returns-clause-fine : goal.returns-clause-fine
 returns-clause-fine c =
@@ -53,7 +54,8 @@ returns-clause-fine c =
     let whole = envelopes_of c.args.entry c.args.state.now.next count (c.args.depth + 1) in
     let rest = envelopes_behind c.args.entry c.args.state.now.next count (c.args.depth + 1) c.pass_front-read.result in
     let fine = c.in_ok-count.ensures.fine inside small in
-    fine_from t m.bytes (height whole) _ (Some rest) fine.1 c.pass_front-read.ensures.turns.rest_fine
+    subst (λ f. VisitFine t m c.args.depth inside c.args.entry (Some f)) (sym c.envelopes_left.ensures)
+    (fine_from t m.bytes (height whole) _ (Some rest) fine.1 c.pass_front-read.ensures.turns.rest_fine)
 
 pub open_table-requires-clause-entry : goal.open_table-requires-clause-entry
 open_table-requires-clause-entry c = c.requires.entry

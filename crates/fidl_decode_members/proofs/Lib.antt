@@ -1,0 +1,2 @@
+-- What the proofs of more than one function use.
+pub mod Front
