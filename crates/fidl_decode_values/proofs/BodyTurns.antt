@@ -88,7 +88,8 @@ pub row_fits : (h : Header) (n i : ℕ) → n ≡ table_length h → i < h.rows 
 row_fits h n i whole less = omega (arith, whole, less)
 
 -- the row of the next envelope is that of its ordinal's member
-pub body_found : (t : List ℕ) (b : TableBody) → BodyFine t b → (read : ℕ) → read < b.known → (row : Row) → row ≡ row_at b.table.now (header_of b.table.now) ((entry_at b.table.now b.entry).first + read) → row.key ≡ read + 1 → find (members_of t b.entry) (suc read) ≡ Some (ty.named row.entry)
+pub body_found : (t : List ℕ) (b : TableBody) → BodyFine t b → (read : ℕ) → read < b.known
+    → (row : Row) → row ≡ row_at b.table.now (header_of b.table.now) ((entry_at b.table.now b.entry).first + read) → row.key ≡ read + 1 → find (members_of t b.entry) (suc read) ≡ Some (ty.named row.entry)
 body_found t b bf read more row here key =
     let d = entry_at t b.entry in
     let uses : IsTrue (kind_is uses_ordinals d) = ap (λ (o : Option EntryKind). option_map_or uses_ordinals o false) bf.is in
@@ -108,7 +109,8 @@ body_start b entry base count depth e p n d =
     λ i. record { left = Envelopes (sym e i) 0 (left i); base = sym p i; done = 0; size = 8 * sym n i; nest = most_nest; depth = sym d i; in_envelope = 0 }
 
 -- what a visit leaves is read on
-pub visits_on : (t : List ℕ) (m : Message) (held e place : ℕ) (old mid : Position) (a : ℕ) (g : Frame) → Visits t m held e place old mid a (Some g) → (new : Position) (b n : ℕ) (o : Option Frame) → n ≡ a + b → Turns t m g mid new b (left_over o) → Visits t m held e place old new n o
+pub visits_on : (t : List ℕ) (m : Message) (held e place : ℕ) (old mid : Position) (a : ℕ) (g : Frame) → Visits t m held e place old mid a (Some g)
+    → (new : Position) (b n : ℕ) (o : Option Frame) → n ≡ a + b → Turns t m g mid new b (left_over o) → Visits t m held e place old new n o
 visits_on t m held e place old mid a g v new b n o le turns = record {
   same = λ to. (
     (λ x. let p = (turns.same to).0 ((v.same to).0 x) in subst (λ (s : Position). ReadsIf t m o s to) (sym p.1) p.2),
@@ -122,5 +124,6 @@ visits_on t m held e place old mid a g v new b n o le turns = record {
 }
 
 -- any bytes are a value of an entry of this kind
-pub free_of : (t : List ℕ) → IsFine t → (e : ℕ) → e < (header_of t).entries → (k : EntryKind) → kind_of (entry_at t e).kind ≡ Some k → is_free k (entry_at t e) ≡ true → (size : ℕ) → size_of (declarations_of t) (term_as k t (header_of t) (entry_at t e)) ≡ size → IsFreeOf t e size
+pub free_of : (t : List ℕ) → IsFine t → (e : ℕ) → e < (header_of t).entries → (k : EntryKind) → kind_of (entry_at t e).kind ≡ Some k → is_free k (entry_at t e) ≡ true
+    → (size : ℕ) → size_of (declarations_of t) (term_as k t (header_of t) (entry_at t e)) ≡ size → IsFreeOf t e size
 free_of t fine e lt k is free size same = ((k, is, free), sym (size_as t fine e k lt is) ∙ same)

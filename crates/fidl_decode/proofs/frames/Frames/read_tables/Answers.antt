@@ -224,7 +224,8 @@ pub zeros_at-requires-clause-free : goal.zeros_at-requires-clause-free
 zeros_at-requires-clause-free c =
     let t = c.args.self.now.decoder.table.now in
     let m = message c.args.self.now.decoder in
-    over_free t c.args.self.now.decoder.fine m c.args.frame (at_of c.args.state.now) (at_of c.loop-i.state) (c.loop-i.state.steps - c.args.state.now.steps) (going_on c.args.frame (Elements c.args.members.now.entry c.args.size (c.args.count - c.loop-i.i)) c.loop-i.done) c.loop-i.invariant.turns c.requires.ready
+    over_free t c.args.self.now.decoder.fine m c.args.frame (at_of c.args.state.now) (at_of c.loop-i.state) (c.loop-i.state.steps - c.args.state.now.steps)
+    (going_on c.args.frame (Elements c.args.members.now.entry c.args.size (c.args.count - c.loop-i.i)) c.loop-i.done) c.loop-i.invariant.turns c.requires.ready
 
 pub overflow_cast-done-then-opened : goal.overflow_cast-done-then-opened
 overflow_cast-done-then-opened c =
