@@ -165,7 +165,8 @@ module _ (d : Shown) (w : WellFormed d.table) (index place : ℕ) (lt : index < 
             differ : Some Box ≡ Some Struct → ⊥
             differ e = cc
 
-        go : (b s : Bool) → (b ≡ true → IsOf Box own) → (s ≡ true → IsOf Struct own) → (not s && (not b || (o == 0))) ≡ false → (b ≡ true → i ≡ own.first) → (b ≡ false → i ≡ index) → (b ≡ true → p ≡ o) → (b ≡ false → p ≡ place) → InBox i p ⊎ Itself i p
+        go : (b s : Bool) → (b ≡ true → IsOf Box own) → (s ≡ true → IsOf Struct own) → (not s && (not b || (o == 0))) ≡ false
+            → (b ≡ true → i ≡ own.first) → (b ≡ false → i ≡ index) → (b ≡ true → p ≡ o) → (b ≡ false → p ≡ place) → InBox i p ⊎ Itself i p
         go true true of_box of_struct enough a b x y = absurd (other (of_box refl) (of_struct refl))
         go true false of_box of_struct enough a b x y =
             let more : 0 < o = let e = eqb-false o 0 enough in omega (arith, e) in
